@@ -4,7 +4,6 @@
 #![tactic(auto)]
 
 ghost use Rattle.std.specs.Prelude.{◌≤◌, ◌≡◌, length};
-ghost use Rattle.rules.specs.Limits.{max_types};
 ghost use Rattle.entries.specs.Tested.{EntriesTested};
 ghost use Rattle.program.specs.Places.{Placed, Buffers};
 ghost use Rattle.program.specs.Signatures.{unsigned, SignaturesAre};
@@ -58,7 +57,7 @@ fn infer(
     terms: &[u16],
     functions: &[u16],
     table: &[[u16; MAX_PARAMETERS]; MAX_FUNCTIONS],
-    nodes: &[u16; MAX_TYPES],
+    nodes: &[u16],
     ws: &mut [u8],
 ) -> Loaded
     requires typeable { Typeable p.now types.now terms.now functions.now nodes.now ws.old }
@@ -89,7 +88,7 @@ fn judge(
     requires placed { Placed p.now types.now terms.now functions.now }
     requires typing_bytes_in_bounds { typing_bytes ≤ length ws.old }
     requires signatures_are { SignaturesAre p.now functions.now table.now }
-    requires entries_tested { EntriesTested p.now types.now terms.now functions.now nodes.now tested × (length nodes.now ≡ max_types) }
+    requires entries_tested { EntriesTested p.now types.now terms.now functions.now nodes.now tested }
     ensures { Examined result counts p.now types.now terms.now functions.now table.now }
 {
     let v = tested.verdict;

@@ -6,7 +6,7 @@ use mathlib.Core.Bool.{Bool, true, false}
 use mathlib.Core.List.{List, map}
 use lib.ListN.{length}
 use lib.Dec.{eqb}
-use package.Rattle.rules.specs.Ty.{prod, sum, mu, nodes, same_ty}
+use package.Rattle.rules.specs.Ty.{prod, sum, mu, nodes, is_unit, same_ty}
 use package.Rattle.rules.proofs.Typing.Tests.{same_ty_refl}
 use package.Rattle.calls.specs.Entries.{type_at, type_of}
 use package.Rattle.program.specs.Kinds.{unit_type_kind, recursive_kind, type_variable_kind}
@@ -16,11 +16,14 @@ use package.Rattle.types.specs.declared.shapes.Shape.{Shape}
 use package.Rattle.types.specs.Shapes.{of_kind, shape_tree, node, leaf, plain_shape, Shaped, Settled}
 use package.Rattle.types.proofs.Outer.{unit-known}
 use package.Rattle.types.proofs.Trees.{tree-entry}
-use package.Rattle.types.proofs.Equal.{differing, below-four, two-parts, less-first, less-second}
+use package.Rattle.types.proofs.Equal.{differing, is_unit_lem, below-four, two-parts, less-first, less-second}
 use package.Rattle.types.proofs.Equal.{one-node, kinds_differ, both-units, both-variables, both-recursive, first-differs, by_second}
 
 -- one type
 module _ {xs types heap : List ℕ} {top : ℕ} {c v : Code} (S : Settled xs types heap top c v) {kind : ℕ} (k : kind ≡ (plain_shape xs types heap v).kind) where
+  pub unit_by_kind : eqb kind 0 ≡ is_unit (tree_in xs types heap c)
+  unit_by_kind = ap (λ n. eqb n 0) k ∙ is_unit_lem S.shaped
+
   -- it has a first part
   pub parted : ¬ (kind ≡ type_variable_kind) → kind < type_variable_kind
   parted n = omega (arith, k, below-four S.shaped λ q. n (k ∙ q))

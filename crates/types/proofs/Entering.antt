@@ -17,14 +17,13 @@ use package.Rattle.rules.specs.Ty.{Ty, same_ty}
 use package.Rattle.calls.specs.Entries.{TypeEntry, y_unit, y_prod, y_sum, y_mu, y_var, type_at, type_tree, type_of}
 use package.Rattle.calls.specs.Named.{below, types_of_type}
 use package.Rattle.calls.proofs.Entries.{below-head, below_wider, type-unfolds}
-use package.Rattle.types.specs.Layout.{figure_bytes, figures_from, further_from, further_slots, hints_from, typing_bytes}
+use package.Rattle.types.specs.Layout.{figure_bytes, figures_from, typing_bytes}
 use package.Rattle.calls.specs.Figures.{ceiling, free}
-use package.Rattle.types.specs.Figures.{outer, number_at, free_at, outer_at, stand_at, alias_at, pair_at, Alias, Figured}
+use package.Rattle.types.specs.Figures.{outer, number_at, free_at, outer_at, stand_at, Alias, Figured}
 use package.Rattle.types.specs.Codes.{Readable}
 use package.Rattle.types.specs.declared.numbering.Figure.{Figure}
 use package.Rattle.types.specs.Numbering.{packed, figure_of, number_from, put_figures, slots, slot_of, Finds, Numbered}
-use package.Rattle.types.proofs.Figuring.{number_same, alias-kept, figured-same, length-figures, figures-other, figures-behind}
-use package.Rattle.types.proofs.Figuring.{number_put, free-put, outer-put, stand_put}
+use package.Rattle.types.proofs.Figuring.{number_same, figured-same, length-figures, figures-other, number_put, free-put, outer-put, stand_put, alias-kept}
 use package.Rattle.program.specs.Parts.{TypeField}
 use package.Rattle.types.proofs.Outer.{at_place}
 use package.Rattle.types.specs.Growth.{Noted}
@@ -35,8 +34,8 @@ use package.Rattle.types.proofs.Keys.{key-same, figure_free, figure_outer}
 -- The beginning
 
 pub none_numbered : {xs types heap keys index : List ℕ} → typing_bytes ≤ length heap → length keys ≡ max_types → length index ≡ slots
-    → ((s : ℕ) → s < further_slots → pair_at heap s ≡ 0) → Numbered xs types heap keys index 0
-none_numbered held k x none = record {
+    → Numbered xs types heap keys index 0
+none_numbered held k x = record {
   figured = record {
     held = held;
     number_lower = λ i l. absurd (omega arith);
@@ -45,7 +44,6 @@ none_numbered held k x none = record {
     free_is = λ i l. absurd (omega arith);
     outer_is = λ i l. absurd (omega arith);
     alias_is = λ i j l. absurd (omega arith);
-    further_is = λ s i j l m o e. absurd (omega (arith, none s l, e, o));
   };
   keys_held = k;
   index_held = x;
@@ -173,14 +171,11 @@ module _ {xs types heap keys index : List ℕ} {i : ℕ} (R : Readable xs types)
       same : (j : ℕ) → figures_from ≤ j → j < figures_from + figure_bytes * i → get_or heap j 0 ≡ get_or heap' j 0
       same j g h = sym (ap (λ heap. get_or heap j 0) w ∙ figures-other heap i own f.free f.outer j h)
 
-      rows : (j : ℕ) → further_from ≤ j → j < hints_from → get_or heap j 0 ≡ get_or heap' j 0
-      rows j g h = sym (ap (λ heap. get_or heap j 0) w ∙ figures-behind heap i own f.free f.outer j (omega (arith, R.few)))
-
       numbers : (j : ℕ) → j < i → number_at heap j ≡ number_at heap' j
       numbers = number_same heap heap' same
 
       older : Figured ys heap' i
-      older = figured-same F lengths same rows
+      older = figured-same F lengths same
 
       new-number : number_at heap' i ≡ number_from heap i k
       new-number = ap (λ heap. number_at heap i) w ∙ number_put heap i own f.free f.outer room (omega (arith, o, own-lower, R.few)) ∙ o
@@ -207,10 +202,9 @@ module _ {xs types heap keys index : List ℕ} {i : ℕ} (R : Readable xs types)
         outer_is = each (λ j. outer_at heap' j ≡ min ceiling (outer (type_of ys j))) older.outer_is
             (ap (λ heap. outer_at heap i) w ∙ outer-put heap i own f.free f.outer room outer-fits ∙ ap (λ (f : Figure). f.outer) e
             ∙ figure_outer F few (y i) (lower i (omega arith)) ∙ ap (λ t. min ceiling (outer t)) (sym (unfolds i)));
-        alias_is = λ j m h. each (λ j. stand_at heap' j ≡ suc m → Alias ys heap' (i + 1) j m (alias_at heap' j))
-            (λ j h t. alias-kept (omega arith) (λ k l. refl) refl (older.alias_is j m h t))
+        alias_is = λ j m h. each (λ j. stand_at heap' j ≡ suc m → Alias ys heap' (i + 1) j m)
+            (λ j h t. alias-kept (omega arith) refl (older.alias_is j m h t))
             (λ t. absurd (omega (arith, t, ap (λ heap. stand_at heap i) w, stand_put heap i own f.free f.outer room))) j h;
-        further_is = λ s a b l m o t. alias-kept (omega arith) (λ k l. refl) refl (older.further_is s a b l m o t);
       }
 
       ----------------------------------------------------------------

@@ -13,8 +13,8 @@ use package.Rattle.rules.specs.Limits.{max_types}
 use package.Rattle.octets.specs.Numbers.{get16, put16}
 use package.Rattle.octets.proofs.Puts.{length-put16, put16-other, get16-put16}
 use package.Rattle.calls.specs.Entries.{TypeEntry, type_of}
-use package.Rattle.types.specs.Layout.{figure_bytes, figures_from, further_from, further_slots, hints_from}
-use package.Rattle.types.specs.Figures.{number_at, free_at, outer_at, stand_at, alias_at, pair_of, pair_at, further_at, Alias, Figured}
+use package.Rattle.types.specs.Layout.{figure_bytes, figures_from}
+use package.Rattle.types.specs.Figures.{closed_by, number_at, free_at, outer_at, stand_at, alias_at, Alias, Figured}
 use package.Rattle.types.specs.Numbering.{put_figures, put_alias}
 
 get16-bytes : (xs ys : List ℕ) (i : ℕ) → get_or xs i 0 ≡ get_or ys i 0 → get_or xs (i + 1) 0 ≡ get_or ys (i + 1) 0 → get16 xs i ≡ get16 ys i
@@ -46,48 +46,25 @@ module _ (heap heap' : List ℕ) {n : ℕ} (same : (j : ℕ) → figures_from �
   unfolding alias_at
   alias-same = get16-bytes heap heap' _ (same _ (omega arith) (omega arith)) (same _ (omega arith) (omega arith))
 
--- and on further aliases
-module _ (heap heap' : List ℕ) (rows : (j : ℕ) → further_from ≤ j → j < hints_from → get_or heap j 0 ≡ get_or heap' j 0) (s : ℕ) (l : s < further_slots) where
-  pub pair_same : pair_at heap s ≡ pair_at heap' s
-  unfolding pair_at
-  pair_same = get16-bytes heap heap' _ (rows _ (omega arith) (omega arith)) (rows _ (omega arith) (omega arith))
+-- an alias in bytes that have the same
+pub alias-kept : {ys : List TypeEntry} {heap heap' : List ℕ} {n m i j : ℕ} → n ≤ m → alias_at heap i ≡ alias_at heap' i → Alias ys heap n i j
+    → Alias ys heap' m i j
+alias-kept {ys} h e A = record { stands = omega (arith, A.stands); there = omega (arith, e, A.there); tree = ap (type_of ys) (sym e) ∙ A.tree }
 
-  pub further_same : further_at heap s ≡ further_at heap' s
-  unfolding further_at
-  further_same = get16-bytes heap heap' _ (rows _ (omega arith) (omega arith)) (rows _ (omega arith) (omega arith))
-
--- an alias, where the numbers are the same
-pub alias-kept : {ys : List TypeEntry} {heap heap' : List ℕ} {n m i j k k' : ℕ} → n ≤ m → ((i : ℕ) → i < n → number_at heap i ≡ number_at heap' i)
-    → k ≡ k' → Alias ys heap n i j k → Alias ys heap' m i j k'
-alias-kept {ys} {heap} {heap'} {n} {m} {i} {j} {k} h number e A =
-    subst (Alias ys heap' m i j) e (record { there = omega (arith, A.there); own = sym (number k A.there) ∙ A.own; tree = A.tree })
-
--- all further aliases are right
-abbrev pub Furthered : List TypeEntry → List ℕ → ℕ → Type 0
-Furthered ys heap n =
-    (s i j : ℕ) → s < further_slots → j < max_types → 0 < pair_of i j → pair_at heap s ≡ pair_of i j → Alias ys heap n i j (further_at heap s)
-
-module _ {ys : List TypeEntry} {heap heap' : List ℕ} {n : ℕ} (F : Figured ys heap n) (e : length heap ≡ length heap')
-    (same : (j : ℕ) → figures_from ≤ j → j < figures_from + figure_bytes * n → get_or heap j 0 ≡ get_or heap' j 0) where
-  pub refigured : Furthered ys heap' n → Figured ys heap' n
-  refigured further = record {
-    held = omega (arith, e, F.held);
-    number_lower = λ i l. subst (λ k. k ≤ i) (number i l) (F.number_lower i l);
-    number_tree = λ i l. ap (type_of ys) (sym (number i l)) ∙ F.number_tree i l;
-    number_one = λ i j l m t. sym (number i l) ∙ F.number_one i j l m t ∙ number j m;
-    free_is = λ i l. sym (free-same heap heap' same i l) ∙ F.free_is i l;
-    outer_is = λ i l. sym (outer_same heap heap' same i l) ∙ F.outer_is i l;
-    alias_is = λ i j l e. alias-kept (omega arith) number (alias-same heap heap' same i l) (F.alias_is i j l (stand_same heap heap' same i l ∙ e));
-    further_is = further;
-  }
-    where
-      number : (i : ℕ) → i < n → number_at heap i ≡ number_at heap' i
-      number = number_same heap heap' same
-
-  pub figured-same : ((j : ℕ) → further_from ≤ j → j < hints_from → get_or heap j 0 ≡ get_or heap' j 0) → Figured ys heap' n
-  figured-same rows = refigured λ s i j l m o e.
-      alias-kept (omega arith) (number_same heap heap' same) (further_same heap heap' rows s l)
-      (F.further_is s i j l m o (pair_same heap heap' rows s l ∙ e))
+pub figured-same : {ys : List TypeEntry} {heap heap' : List ℕ} {n : ℕ} → Figured ys heap n → length heap ≡ length heap'
+    → ((j : ℕ) → figures_from ≤ j → j < figures_from + figure_bytes * n → get_or heap j 0 ≡ get_or heap' j 0) → Figured ys heap' n
+figured-same {ys} {heap} {heap'} {n} F e same = record {
+  held = omega (arith, e, F.held);
+  number_lower = λ i l. subst (λ k. k ≤ i) (number i l) (F.number_lower i l);
+  number_tree = λ i l. ap (type_of ys) (sym (number i l)) ∙ F.number_tree i l;
+  number_one = λ i j l m t. sym (number i l) ∙ F.number_one i j l m t ∙ number j m;
+  free_is = λ i l. sym (free-same heap heap' same i l) ∙ F.free_is i l;
+  outer_is = λ i l. sym (outer_same heap heap' same i l) ∙ F.outer_is i l;
+  alias_is = λ i j l e. alias-kept (omega arith) (alias-same heap heap' same i l) (F.alias_is i j l (stand_same heap heap' same i l ∙ e));
+}
+  where
+    number : (i : ℕ) → i < n → number_at heap i ≡ number_at heap' i
+    number = number_same heap heap' same
 
 ----------------------------------------------------------------
 -- Figures that are put
@@ -113,15 +90,6 @@ module _ (heap : List ℕ) (i number free outer : ℕ) where
   pub figures-other : (j : ℕ) → j < from → get_or (put_figures heap i number free outer) j 0 ≡ get_or heap j 0
   unfolding put_figures
   figures-other j h =
-      put16-other three-put (from + 6) 0 j (λ e. omega arith) (λ e. omega arith)
-      ∙ put16-other two-put (from + 4) outer j (λ e. omega arith) (λ e. omega arith)
-      ∙ put16-other one-put (from + 2) free j (λ e. omega arith) (λ e. omega arith)
-      ∙ put16-other heap from number j (λ e. omega arith) (λ e. omega arith)
-
-  -- and what is behind
-  pub figures-behind : (j : ℕ) → from + figure_bytes ≤ j → get_or (put_figures heap i number free outer) j 0 ≡ get_or heap j 0
-  unfolding put_figures
-  figures-behind j h =
       put16-other three-put (from + 6) 0 j (λ e. omega arith) (λ e. omega arith)
       ∙ put16-other two-put (from + 4) outer j (λ e. omega arith) (λ e. omega arith)
       ∙ put16-other one-put (from + 2) free j (λ e. omega arith) (λ e. omega arith)
@@ -233,9 +201,9 @@ module _ (heap : List ℕ) (i j alias : ℕ) where
     alias-here small = get16-put16 (put16 heap (base + 6) (j + 1)) (base + 8) alias (simp length-put16 (omega arith)) small
 
 -- an alias that is right may be kept
-pub alias-more : {ys : List TypeEntry} {heap : List ℕ} {n i j k : ℕ} → Figured ys heap n → n ≤ max_types → i < n → j < n → Alias ys heap n i j k
-    → Figured ys (put_alias heap i j k) n
-alias-more {ys} {heap} {n} {i} {j} {k} F few li lj A = record {
+pub alias-more : {ys : List TypeEntry} {heap : List ℕ} {n i j k : ℕ} → Figured ys heap n → n ≤ max_types → i < n → j < n → k < n
+    → type_of ys k ≡ closed_by (type_of ys j) (type_of ys i) → Figured ys (put_alias heap i j k) n
+alias-more {ys} {heap} {n} {i} {j} {k} F few li lj lk t = record {
   held = omega (arith, length-alias heap i j k, F.held);
   number_lower = λ m l. subst (λ x. x ≤ m) (sym (number-beside heap i j k m)) (F.number_lower m l);
   number_tree = λ m l. ap (type_of ys) (number-beside heap i j k m) ∙ F.number_tree m l;
@@ -243,32 +211,21 @@ alias-more {ys} {heap} {n} {i} {j} {k} F few li lj A = record {
   free_is = λ m l. free-beside heap i j k m ∙ F.free_is m l;
   outer_is = λ m l. outer-beside heap i j k m ∙ F.outer_is m l;
   alias_is = λ m o l e. new_or_old m o l e (eqb m i) refl;
-  further_is = λ s a b l m o e.
-      alias-kept (omega arith) numbers (further_same heap (put_alias heap i j k) rows s l)
-      (F.further_is s a b l m o (pair_same heap (put_alias heap i j k) rows s l ∙ e));
 }
   where
     room : figures_from + figure_bytes * i + figure_bytes ≤ length heap
     room = omega (arith, F.held)
 
-    numbers : (m : ℕ) → m < n → number_at heap m ≡ number_at (put_alias heap i j k) m
-    numbers m l = sym (number-beside heap i j k m)
-
-    rows : (m : ℕ) → further_from ≤ m → m < hints_from → get_or heap m 0 ≡ get_or (put_alias heap i j k) m 0
-    rows m g h = sym (alias-other heap i j k m (right (omega arith)))
-
-    new : (o : ℕ) → stand_at (put_alias heap i j k) i ≡ suc o → Alias ys (put_alias heap i j k) n i o (alias_at (put_alias heap i j k) i)
+    new : (o : ℕ) → stand_at (put_alias heap i j k) i ≡ suc o → Alias ys (put_alias heap i j k) n i o
     new o e =
-        let here : alias_at (put_alias heap i j k) i ≡ k = alias-here heap i j k room (omega (arith, A.there)) in
+        let here : alias_at (put_alias heap i j k) i ≡ k = alias-here heap i j k room (omega arith) in
         let same : j ≡ o = omega (arith, e, stand_here heap i j k room (omega arith)) in
-        alias-kept (omega arith) numbers (sym here) (subst (λ j. Alias ys heap n i j k) same A)
+        record { stands = omega arith; there = omega (arith, here); tree = ap (type_of ys) here ∙ t ∙ ap (λ j. closed_by (type_of ys j) (type_of ys i)) same }
 
-    new_or_old : (m o : ℕ) → m < n → stand_at (put_alias heap i j k) m ≡ suc o → (b : Bool) → eqb m i ≡ b
-        → Alias ys (put_alias heap i j k) n m o (alias_at (put_alias heap i j k) m)
+    new_or_old : (m o : ℕ) → m < n → stand_at (put_alias heap i j k) m ≡ suc o → (b : Bool) → eqb m i ≡ b → Alias ys (put_alias heap i j k) n m o
     new_or_old m o l e true q =
         let same : m ≡ i = eqb-true m i q in
-        subst (λ m. Alias ys (put_alias heap i j k) n m o (alias_at (put_alias heap i j k) m)) (sym same)
-        (new o (ap (stand_at (put_alias heap i j k)) (sym same) ∙ e))
+        subst (λ m. Alias ys (put_alias heap i j k) n m o) (sym same) (new o (ap (stand_at (put_alias heap i j k)) (sym same) ∙ e))
     new_or_old m o l e false q =
         let apart : ¬ (m ≡ i) = eqb-false m i q in
-        alias-kept (omega arith) numbers (sym (alias-beside heap i j k m apart)) (F.alias_is m o l (sym (stand_beside heap i j k m apart) ∙ e))
+        alias-kept (omega arith) (sym (alias-beside heap i j k m apart)) (F.alias_is m o l (sym (stand_beside heap i j k m apart) ∙ e))

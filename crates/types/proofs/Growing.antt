@@ -193,7 +193,7 @@ module _ {ys : List TypeEntry} {n : ℕ} {heap heap' : List ℕ} {top : ℕ} (P 
   products-kept = record { held = omega (arith, P.held, A.lengths); node = right_kept }
 
 pub figures-kept : {ys : List TypeEntry} {n top : ℕ} {heap heap' : List ℕ} → n ≤ max_types → Figured ys heap n → Agree top heap heap' → Figured ys heap' n
-figures-kept few F A = figured-same F A.lengths (λ j l h. A.behind j l (omega arith)) λ j l h. A.behind j (omega arith) h
+figures-kept few F A = figured-same F A.lengths λ j l h. A.behind j l (omega arith)
 
 pub sources-kept : {xs types heap heap' : List ℕ} {top : ℕ} → Sources xs types heap top → Agree top heap heap' → Sources xs types heap' top
 sources-kept S A = record { entries = S.entries; figures = figures-kept S.entries.few S.figures A; products = products-kept S.products A }

@@ -37,7 +37,7 @@ pub noted-agree : {top : ℕ} {heap heap' : List ℕ} → top ≤ max_terms → 
 noted-agree few N = record { same = λ i h. N.same i (omega arith); behind = λ i l h. N.same i h; lengths = N.lengths }
 
 pub noted-figured : {ys : List TypeEntry} {n : ℕ} {heap heap' : List ℕ} → n ≤ max_types → Figured ys heap n → Noted heap heap' → Figured ys heap' n
-noted-figured few F N = figured-same F N.lengths (λ j l h. N.same j (omega arith)) λ j l h. N.same j h
+noted-figured few F N = figured-same F N.lengths λ j l h. N.same j (omega arith)
 
 ----------------------------------------------------------------
 -- A hint that names what is there

@@ -3,8 +3,6 @@
 pub mod Closing
 -- the figures of entries in lent bytes
 pub mod Figuring
--- further aliases: what is put, recalled and forgotten
-pub mod Recalling
 -- the tree of a code by its form, and of a product node from its parts
 pub mod Trees
 -- the outermost node of a code's tree, and its parts
@@ -15,8 +13,6 @@ pub mod Plain
 pub mod Equal
 -- the same by settled codes
 pub mod Alike
--- whether a type is unit
-pub mod Units
 -- what a recursive entry unfolds to
 pub mod Unfold
 -- how many nodes a type has

@@ -3,29 +3,25 @@ use Prim.Native.Nat.{ℕ, zero, suc, ◌+◌, ◌<◌, ◌≤◌}
 use native.Mathlib.Omega.{arith}
 use native.Mathlib.Decide.{dec_lt}
 use mathlib.Core.Path.{◌≡◌, refl, sym, ap, ap₂, subst, ◌∙◌}
-use mathlib.Core.Bool.{Bool, true, false, cond}
 use mathlib.Core.List.{List, map}
 use lib.ListN.{length, get_or}
-use lib.Dec.{eqb}
-use borrow.Author.Tests.{eqb-true}
 use package.Rattle.rules.specs.Limits.{max_types}
 use package.Rattle.rules.specs.Ty.{Ty, tyvar}
 use package.Rattle.calls.specs.Fields.{kind_at}
 use package.Rattle.calls.specs.Entries.{type_at, type_tree, type_of}
 use package.Rattle.calls.specs.Figures.{free}
 use package.Rattle.program.specs.Parts.{first, second, variable}
-use package.Rattle.program.proofs.Shapes.{type-unit, type-var}
+use package.Rattle.program.proofs.Shapes.{type-var}
 use package.Rattle.program.specs.Kinds.{unit_type_kind, product_kind, recursive_kind, type_variable_kind}
 use package.Rattle.types.specs.declared.codes.Code.{Code}
 use package.Rattle.types.specs.declared.shapes.Shape.{Shape}
 use package.Rattle.types.specs.Layout.{typing_bytes}
-use package.Rattle.types.specs.Figures.{closed_by, number_at, free_at, stand_at, alias_at, pair_of, further_slot, pair_at, further_at, Alias}
-use package.Rattle.types.specs.Codes.{unit_form, entry_form, under_form, product_form, entry_code, under_code, recalled_code}
+use package.Rattle.types.specs.Figures.{closed_by, number_at, free_at, stand_at, alias_at, Alias}
+use package.Rattle.types.specs.Codes.{unit_form, entry_form, under_form, product_form, entry_code, under_code}
 use package.Rattle.types.specs.Codes.{left_at, right_at, tree_in, Readable, Known, Sources}
 use package.Rattle.types.specs.Shapes.{leaf, part, entry_shape, product_shape, plain_form, plain_shape, Shaped, Settled}
 use package.Rattle.types.proofs.Closing.{closed_itself, closed-variable}
 use package.Rattle.types.proofs.Trees.{tree-entry, tree-under}
-use package.Rattle.types.proofs.Recalling.{slot-inside}
 use package.Rattle.types.proofs.Outer.{unit-node, two-node, mu-node, var-node, found-two, found-mu, found-var, few-at, kind-there, mu-there, first-lower}
 use package.Rattle.types.proofs.Outer.{second-lower, two-there, var-there, unfolds-at, entry-there, entry_known, under-known, unit-shaped, entry-shaped, under-shaped, product-shaped}
 
@@ -33,12 +29,12 @@ use package.Rattle.types.proofs.Outer.{second-lower, two-there, var-there, unfol
 -- By form
 
 module _ (xs types heap : List ℕ) (c : Code) where
-  pub plain-unit : c.form ≡ unit_form → plain_shape xs types heap c ≡ leaf unit_type_kind 0
+  plain-unit : c.form ≡ unit_form → plain_shape xs types heap c ≡ leaf unit_type_kind 0
   unfolding plain_form
   plain-unit e = ap (λ n. plain_form xs types heap n c) e
 
   -- an entry's, as it stands or with a variable that stands for another
-  pub plain_at : entry_form ≤ c.form → c.form ≤ under_form → plain_shape xs types heap c ≡ entry_shape heap (type_at xs (get_or types c.at 0)) c
+  plain_at : entry_form ≤ c.form → c.form ≤ under_form → plain_shape xs types heap c ≡ entry_shape heap (type_at xs (get_or types c.at 0)) c
   unfolding plain_form
   plain_at lo hi = go c.form lo hi
     where
@@ -48,7 +44,7 @@ module _ (xs types heap : List ℕ) (c : Code) where
       go (suc (suc zero)) lo hi = refl
       go (suc (suc (suc n))) lo hi = absurd (omega arith)
 
-  pub plain-product : c.form ≡ product_form → plain_shape xs types heap c ≡ product_shape heap c.at
+  plain-product : c.form ≡ product_form → plain_shape xs types heap c ≡ product_shape heap c.at
   unfolding plain_form
   plain-product e = ap (λ n. plain_form xs types heap n c) e
 
@@ -158,19 +154,17 @@ module _ {xs types heap : List ℕ} {top : ℕ} (S : Sources xs types heap top) 
           entry-settled c c.at at_there (sym (tree-under (map (type_at xs) types) heap c e ∙ closed_itself τ _ (sym free-at ∙ z))) p q
 
       -- an alias, for what stands
-      module _ {j : ℕ} (s : j ≡ number_at heap c.stands) where
-        pub stands-there : (j < length types) × (j < max_types)
-        stands-there = omega (arith, s, number-there c.stands (K.stands e), S.entries.few)
+      module _ {j : ℕ} (s : j ≡ number_at heap c.stands) {x y z : ℕ} (h : x ≡ stand_at heap i) (v : y ≡ x) (w : z ≡ j) (t : y ≡ z + 1) where
+        alias : Alias (map (type_at xs) types) heap (length types) i j
+        alias = S.figures.alias_is i j under-there.0 (let one_more : stand_at heap i ≡ suc j = omega arith in one_more)
 
-        by_alias : {k : ℕ} {r : Code} → Alias (map (type_at xs) types) heap (length types) i j k → r ≡ entry_code k → Settled xs types heap top c r
-        by_alias {k} A r = entry-settled c k A.there (A.tree
+        pub alias-there : {k : ℕ} → k ≡ alias_at heap i → k < max_types
+        alias-there q = omega (arith, q, alias.there, S.entries.few)
+
+        pub alias-settled : {k m : ℕ} {r : Code} → k ≡ alias_at heap i → m ≡ number_at heap k → r ≡ entry_code m → Settled xs types heap top c r
+        alias-settled {k} q m r = entry-settled c k (omega (arith, q, alias.there)) (ap (type_of (map (type_at xs) types)) q ∙ alias.tree
             ∙ ap₂ closed_by (ap (type_of (map (type_at xs) types)) s ∙ S.figures.number_tree c.stands (K.stands e)) same_at
-            ∙ sym (tree-under (map (type_at xs) types) heap c e)) (sym A.own) r
-
-        pub alias-settled : {x y z k : ℕ} {r : Code} → x ≡ stand_at heap i → y ≡ x → z ≡ j → y ≡ z + 1 → k ≡ alias_at heap i → r ≡ entry_code k
-            → Settled xs types heap top c r
-        alias-settled h v w t q r =
-            by_alias (S.figures.alias_is i j under-there.0 (let one_more : stand_at heap i ≡ suc j = omega arith in one_more)) (r ∙ ap entry_code q)
+            ∙ sym (tree-under (map (type_at xs) types) heap c e)) m r
 
       module _ {j : ℕ} (s : j ≡ number_at heap c.stands) {n at kind : ℕ} (a : n ≡ i) (f : at ≡ get_or types n 0) (g : kind ≡ kind_at xs at) where
         kind-under : (d : Code) → d.at ≡ i → kind ≡ (entry_shape heap (type_at xs (get_or types d.at 0)) d).kind
@@ -207,33 +201,6 @@ module _ {xs types heap : List ℕ} {top : ℕ} (S : Sources xs types heap top) 
             tree = tree-under (map (type_at xs) types) heap (under_code i j) refl
                 ∙ ap₂ closed_by (ap (type_of (map (type_at xs) types)) s ∙ S.figures.number_tree c.stands (K.stands e)) same_at
                 ∙ sym (tree-under (map (type_at xs) types) heap c e)
-
-        -- an open entry that is no variable has parts, which are lower
-        above : ¬ (free_at heap i ≡ 0) → ¬ (kind ≡ type_variable_kind) → 0 < i
-        unfolding type_tree free
-        above z v = go (dec_lt 0 kind)
-          where
-            go : Dec (0 < kind) → 0 < i
-            go (yes l) = omega (
-              arith,
-              first-lower S.entries under-there.0 a f g (λ u. omega (arith, u))
-                  (let few : kind < 4 = omega (arith, g, v, few-at S.entries under-there.0 a f) in few),
-            )
-            go (no n) = absurd (z (S.figures.free_is i under-there.0 ∙ ap free (sym (unfolds-at S.entries i under-there.0)
-                ∙ ap (type_tree (type_of (map (type_at xs) types)))
-                (ap (type_at xs) (sym (f ∙ ap (λ n. get_or types n 0) a)) ∙ type-unit xs at (let unit : kind_at xs at ≡ 0 = omega (arith, g) in unit)))))
-
-        -- a further alias, if there is one
-        pub recalled_settled : {r : Code} → ¬ (free_at heap i ≡ 0) → ¬ (kind ≡ type_variable_kind) → r ≡ recalled_code heap i j
-            → Settled xs types heap top c r
-        recalled_settled {r} z v q = go (eqb (pair_at heap (further_slot i j)) (pair_of i j)) refl q
-          where
-            go : (b : Bool) → eqb (pair_at heap (further_slot i j)) (pair_of i j) ≡ b
-                → r ≡ cond b (entry_code (further_at heap (further_slot i j))) (under_code i j) → Settled xs types heap top c r
-            go true p q =
-                let some : 0 < pair_of i j = omega (arith, above z v) in
-                by_alias s (S.figures.further_is (further_slot i j) i j (slot-inside i j) (stands-there s).1 some (eqb-true _ _ p)) q
-            go false p q = under-settled z v q
 
 ----------------------------------------------------------------
 -- The parts of an entry's node

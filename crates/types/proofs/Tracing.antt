@@ -3,10 +3,9 @@ use Prim.Native.Nat.{ℕ, ◌+◌, ◌≤◌, ◌<◌}
 use native.Mathlib.Omega.{arith}
 use native.Mathlib.Decide.{dec_lt}
 use mathlib.Core.Path.{◌≡◌, refl, sym, ap, subst, ◌∙◌}
-use mathlib.Core.Bool.{Bool, true, false, cond}
+use mathlib.Core.Bool.{Bool, true}
 use mathlib.Core.List.{List, map}
 use lib.ListN.{length, get_or}
-use lib.Dec.{eqb}
 use package.Rattle.rules.specs.Limits.{max_types}
 use package.Rattle.rules.specs.Ty.{same_ty}
 use package.Rattle.rules.proofs.Typing.Tests.{same_ty_eq}
@@ -16,12 +15,11 @@ use package.Rattle.program.specs.Parts.{TermField, first, second}
 use package.Rattle.program.specs.Kinds.{unit_type_kind, recursive_kind, type_variable_kind, roll_kind}
 use package.Rattle.program.proofs.Rooms.{term-kind, two-room}
 use package.Rattle.types.specs.Layout.{typing_bytes}
-use package.Rattle.types.specs.Figures.{number_at, stand_at, Alias, Figured}
+use package.Rattle.types.specs.Figures.{number_at, Figured}
 use package.Rattle.types.specs.declared.codes.Code.{Code}
 use package.Rattle.types.specs.Codes.{entry_code, under_code, tree_in, Readable, Known, Sources}
-use package.Rattle.types.specs.Numbering.{slots, slot_of, put_alias, put_further, with_alias, Finds, Numbered, Traceable}
+use package.Rattle.types.specs.Numbering.{slots, slot_of, put_alias, Finds, Numbered, Traceable}
 use package.Rattle.types.proofs.Figuring.{alias-more}
-use package.Rattle.types.proofs.Recalling.{further-more}
 use package.Rattle.types.proofs.Trees.{tree-entry, tree-under}
 use package.Rattle.types.proofs.Outer.{few-at, mu-there, two-there, first-lower, second-lower, entry_known, under-known}
 use package.Rattle.types.proofs.Beginning.{no-products}
@@ -49,12 +47,6 @@ module _ {xs types heap keys index : List ℕ} (T : Traceable xs types heap keys
   pub number-there : {k n alias : ℕ} → k < length types → n ≡ k → alias ≡ number_at heap n → alias < length types
   number-there {k} l e q = omega (arith, q, ap (number_at heap) e, T.figured.number_lower k l)
 
-  pub number-own : {k n alias : ℕ} → k < length types → n ≡ k → alias ≡ number_at heap n → number_at heap alias ≡ alias
-  number-own {k} l e q =
-      let is : _ ≡ number_at heap k = q ∙ ap (number_at heap) e in
-      ap (number_at heap) is
-      ∙ T.figured.number_one (number_at heap k) k (omega (arith, T.figured.number_lower k l)) l (T.figured.number_tree k l) ∙ sym is
-
   -- what settling asks of a part
   pub part-asked : {i j : ℕ} {c : Code} → i < length types → j < length types → c ≡ under_code i j
       → Sources xs types heap 0 × Known (length types) 0 c
@@ -67,21 +59,12 @@ module _ {xs types heap keys index : List ℕ} (T : Traceable xs types heap keys
     pub codes_known : Known (length types) 0 c × Known (length types) 0 d
     codes_known = (subst (Known (length types) 0) (sym p) (under-known i j li lj), subst (Known (length types) 0) (sym q) (entry_known k lk))
 
-    pub alias-figured : number_at heap k ≡ k → {r : Bool} → r ≡ same_ty (tree_in xs types heap c) (tree_in xs types heap d) → r ≡ true
-        → {heap' : List ℕ} → heap' ≡ with_alias heap i j k → Figured (map (type_at xs) types) heap' (length types)
-    alias-figured own e t w = subst (λ heap. Figured (map (type_at xs) types) heap (length types)) (sym w) (go (eqb (stand_at heap i) 0))
-      where
-        alias : Alias (map (type_at xs) types) heap (length types) i j k
-        alias = record {
-          there = lk;
-          own = own;
-          tree = sym (tree-entry (map (type_at xs) types) heap (entry_code k) refl) ∙ ap (tree_in xs types heap) (sym q)
-              ∙ sym (same_ty_eq _ _ (sym e ∙ t)) ∙ ap (tree_in xs types heap) p ∙ tree-under (map (type_at xs) types) heap (under_code i j) refl;
-        }
-
-        go : (b : Bool) → Figured (map (type_at xs) types) (cond b (put_alias heap i j k) (put_further heap i j k)) (length types)
-        go true = alias-more T.figured T.entries.few li lj alias
-        go false = further-more T.figured T.entries.few li lj alias
+    pub alias-figured : {r : Bool} → r ≡ same_ty (tree_in xs types heap c) (tree_in xs types heap d) → r ≡ true → {heap' : List ℕ} → heap' ≡ put_alias heap i j k
+        → Figured (map (type_at xs) types) heap' (length types)
+    alias-figured e t w = subst (λ heap. Figured (map (type_at xs) types) heap (length types)) (sym w)
+        (alias-more T.figured T.entries.few li lj lk
+        (sym (tree-entry (map (type_at xs) types) heap (entry_code k) refl) ∙ ap (tree_in xs types heap) (sym q)
+        ∙ sym (same_ty_eq _ _ (sym e ∙ t)) ∙ ap (tree_in xs types heap) p ∙ tree-under (map (type_at xs) types) heap (under_code i j) refl))
 
   ----------------------------------------------------------------
   -- A part traced: its number `i`, whose field is at `at`

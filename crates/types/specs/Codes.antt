@@ -1,14 +1,14 @@
 -- Codes of types (section 3: types are equal as trees), and the tree that a code is of: a type entry of the program, the same with a
 -- variable standing for a recursive entry, as unroll makes it, or a product of two codes, which no entry need name. Products are nodes
 -- in lent bytes, appended and never changed. The tree is a total function; laws: proofs/Trees.
-use Rattle.std.specs.Prelude.{ℕ, zero, suc, ◌+◌, ◌*◌, ◌<◌, ◌≤◌, ◌≡◌, cond, List, map, length, get_or, eqb}
+use Rattle.std.specs.Prelude.{ℕ, zero, suc, ◌+◌, ◌*◌, ◌<◌, ◌≤◌, ◌≡◌, List, map, length, get_or}
 use package.Rattle.octets.specs.Numbers.{get16}
 use package.Rattle.rules.specs.Limits.{max_types, max_nodes}
 use package.Rattle.rules.specs.Ty.{Ty, one, prod, nodes}
 use package.Rattle.calls.specs.Entries.{TypeEntry, type_at, type_of}
 use package.Rattle.calls.specs.Tested.{Lower}
 use package.Rattle.program.specs.Parts.{TypeField}
-use package.Rattle.types.specs.Figures.{closed_by, pair_of, further_slot, pair_at, further_at, Figured}
+use package.Rattle.types.specs.Figures.{closed_by, Figured}
 pub use package.Rattle.types.specs.Layout.{node_bytes}
 use package.Rattle.types.specs.declared.codes.Code.{Code}
 
@@ -37,11 +37,6 @@ entry_code i = record { form = entry_form; at = i; stands = 0 }
 -- the entry `i`, its outermost free variable standing for the entry `j`
 abbrev pub under_code : ℕ → ℕ → Code
 under_code i j = record { form = under_form; at = i; stands = j }
-
--- the same as a further alias, if one is there
-abbrev pub recalled_code : List ℕ → ℕ → ℕ → Code
-recalled_code heap i j =
-    cond (eqb (pair_at heap (further_slot i j)) (pair_of i j)) (entry_code (further_at heap (further_slot i j))) (under_code i j)
 
 abbrev pub product_code : ℕ → Code
 product_code n = record { form = product_form; at = n; stands = 0 }

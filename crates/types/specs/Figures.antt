@@ -1,13 +1,12 @@
 -- What is kept of each type entry (02, F-4), made once, bottom up, so that nothing is counted while types are compared: a canonical number,
 -- which entries that are equal as trees share; what the nodes of an unfolding follow from; and an entry that a part of an unfolding is equal to, if
 -- one was found. Laws: proofs/Closing, Figuring.
-use Rattle.std.specs.Prelude.{ℕ, suc, ◌+◌, ◌*◌, ◌%◌, ◌<◌, ◌≤◌, pred, min, ◌≡◌, cond, List, length, eqb}
+use Rattle.std.specs.Prelude.{ℕ, suc, ◌+◌, ◌*◌, ◌<◌, ◌≤◌, pred, min, ◌≡◌, cond, List, length, eqb}
 use package.Rattle.octets.specs.Numbers.{get16}
 use package.Rattle.rules.specs.Ty.{Ty, one, prod, sum, mu, tyvar, plug}
-use package.Rattle.rules.specs.Limits.{max_types}
 use package.Rattle.calls.specs.Entries.{TypeEntry, type_of}
 use package.Rattle.calls.specs.Figures.{ceiling, free}
-use package.Rattle.types.specs.Layout.{figure_bytes, figures_from, further_bytes, further_from, further_slots, typing_bytes}
+use package.Rattle.types.specs.Layout.{figure_bytes, figures_from, typing_bytes}
 
 ----------------------------------------------------------------
 -- The outermost free variable
@@ -47,29 +46,14 @@ stand_at heap i = get16 heap (figures_from + figure_bytes * i + 6)
 unfoldable pub alias_at : List ℕ → ℕ → ℕ
 alias_at heap i = get16 heap (figures_from + figure_bytes * i + 8)
 
--- an entry and what stands for its outermost free variable, both below 256, in one number
-abbrev pub pair_of : ℕ → ℕ → ℕ
-pair_of i j = max_types * i + j
-
--- the slot of a further alias
-abbrev pub further_slot : ℕ → ℕ → ℕ
-further_slot i j = (i + j) % further_slots
-
--- what slot `s` has an alias of; 0 if there is none
-unfoldable pub pair_at : List ℕ → ℕ → ℕ
-pair_at heap s = get16 heap (further_from + further_bytes * s)
-
-unfoldable pub further_at : List ℕ → ℕ → ℕ
-further_at heap s = get16 heap (further_from + further_bytes * s + 2)
-
--- Entry `i`, its outermost free variable standing for entry `j`, is equal as a tree to entry `k`, which has its own number.
-pub record Alias (ys : List TypeEntry) (heap : List ℕ) (n i j k : ℕ) : Type 0 where
-  pub there : k < n
-  pub own : number_at heap k ≡ k
-  pub tree : type_of ys k ≡ closed_by (type_of ys j) (type_of ys i)
+-- Entry `i`, its outermost free variable standing for entry `j`, is equal as a tree to the entry that is its alias.
+pub record Alias (ys : List TypeEntry) (heap : List ℕ) (n i j : ℕ) : Type 0 where
+  pub stands : j < n
+  pub there : alias_at heap i < n
+  pub tree : type_of ys (alias_at heap i) ≡ closed_by (type_of ys j) (type_of ys i)
 
 -- The first `n` entries have their figures. An entry's number is that of an entry which is equal to it as a tree, and entries that are equal as
--- trees have one number. An alias is right, and so is a further one; there need not be any.
+-- trees have one number. An alias is right; there need not be one.
 pub record Figured (ys : List TypeEntry) (heap : List ℕ) (n : ℕ) : Type 0 where
   pub held : typing_bytes ≤ length heap
   pub number_lower : (i : ℕ) → i < n → number_at heap i ≤ i
@@ -77,5 +61,4 @@ pub record Figured (ys : List TypeEntry) (heap : List ℕ) (n : ℕ) : Type 0 wh
   pub number_one : (i j : ℕ) → i < n → j < n → type_of ys i ≡ type_of ys j → number_at heap i ≡ number_at heap j
   pub free_is : (i : ℕ) → i < n → free_at heap i ≡ free (type_of ys i)
   pub outer_is : (i : ℕ) → i < n → outer_at heap i ≡ min ceiling (outer (type_of ys i))
-  pub alias_is : (i j : ℕ) → i < n → stand_at heap i ≡ suc j → Alias ys heap n i j (alias_at heap i)
-  pub further_is : (s i j : ℕ) → s < further_slots → j < max_types → 0 < pair_of i j → pair_at heap s ≡ pair_of i j → Alias ys heap n i j (further_at heap s)
+  pub alias_is : (i j : ℕ) → i < n → stand_at heap i ≡ suc j → Alias ys heap n i j

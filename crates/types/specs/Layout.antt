@@ -1,4 +1,4 @@
--- The bytes that typing is lent: product nodes, then what is kept of each type entry, then further aliases, then hints at products.
+-- The bytes that typing is lent: product nodes, then what is kept of each type entry, then hints at products.
 use Rattle.std.specs.Prelude.{ℕ, ◌+◌, ◌*◌}
 use package.Rattle.rules.specs.Limits.{max_types, max_terms}
 
@@ -15,18 +15,8 @@ figure_bytes = 10
 abbrev pub figures_from : ℕ
 figures_from = node_bytes * max_terms
 
-abbrev pub further_from : ℕ
-further_from = figures_from + figure_bytes * max_types
-
--- a further alias: an entry and what stands for its outermost free variable, in one number, and the alias: two bytes each
-abbrev pub further_bytes : ℕ
-further_bytes = 4
-
-abbrev pub further_slots : ℕ
-further_slots = 256
-
 abbrev pub hints_from : ℕ
-hints_from = further_from + further_bytes * further_slots
+hints_from = figures_from + figure_bytes * max_types
 
 -- a hint: a code, six bytes
 abbrev pub hint_bytes : ℕ

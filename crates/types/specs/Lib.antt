@@ -1,7 +1,7 @@
 -- The types that typing gives a term. The modules in reading order:
 -- the bytes that typing is lent
 pub mod Layout
--- what is kept of each type entry: canonical numbers, free variables, aliases
+-- what is kept of each type entry: canonical numbers, free variables
 pub mod Figures
 -- codes of types, and the tree of a code
 pub mod Codes
@@ -11,7 +11,7 @@ pub mod Shapes
 pub mod Unfolding
 -- the nodes of type entries, counted
 pub mod Counts
--- products: new nodes, and hints at those that have a code
+-- new product nodes
 pub mod Growth
 -- how the figures of entries come about
 pub mod Numbering

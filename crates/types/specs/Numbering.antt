@@ -1,13 +1,13 @@
 -- How the figures of type entries come about, one entry after another, from those of the lower ones. Laws: proofs/Keys,
 -- Entering, Tracing.
-use Rattle.std.specs.Prelude.{ℕ, zero, suc, ◌+◌, ◌*◌, ◌%◌, ◌<◌, ◌≤◌, pred, min, max, ◌≡◌, cond, List, map, length, get_or, eqb, ltb}
+use Rattle.std.specs.Prelude.{ℕ, suc, ◌+◌, ◌*◌, ◌%◌, ◌<◌, ◌≤◌, pred, min, max, ◌≡◌, cond, List, map, length, get_or, eqb, ltb}
 use package.Rattle.octets.specs.Numbers.{put16}
 use package.Rattle.rules.specs.Limits.{max_types}
 use package.Rattle.calls.specs.Entries.{TypeEntry, y_unit, y_prod, y_sum, y_mu, y_var, type_at}
 use package.Rattle.calls.specs.Figures.{ceiling}
 use package.Rattle.program.specs.Kinds.{unit_type_kind, product_kind, sum_kind, recursive_kind, type_variable_kind}
-use package.Rattle.types.specs.Layout.{figure_bytes, figures_from, further_bytes, further_from}
-use package.Rattle.types.specs.Figures.{number_at, free_at, outer_at, stand_at, pair_of, further_slot, Figured}
+use package.Rattle.types.specs.Layout.{figure_bytes, figures_from}
+use package.Rattle.types.specs.Figures.{number_at, free_at, outer_at, Figured}
 use package.Rattle.types.specs.Codes.{Readable}
 use package.Rattle.types.specs.declared.numbering.Figure.{Figure}
 
@@ -57,20 +57,6 @@ put_figures heap i number free outer =
 -- the alias of entry `i`, entry `j` standing for its outermost free variable
 unfoldable pub put_alias : List ℕ → ℕ → ℕ → ℕ → List ℕ
 put_alias heap i j alias = put16 (put16 heap (figures_from + figure_bytes * i + 6) (j + 1)) (figures_from + figure_bytes * i + 8) alias
-
--- the same as a further alias
-unfoldable pub put_further : List ℕ → ℕ → ℕ → ℕ → List ℕ
-put_further heap i j alias =
-    put16 (put16 heap (further_from + further_bytes * further_slot i j) (pair_of i j)) (further_from + further_bytes * further_slot i j + 2) alias
-
--- the first alias of an entry stands with its figures
-abbrev pub with_alias : List ℕ → ℕ → ℕ → ℕ → List ℕ
-with_alias heap i j alias = cond (eqb (stand_at heap i) 0) (put_alias heap i j alias) (put_further heap i j alias)
-
--- no further alias in the first slots, so many
-unfoldable pub forgotten : ℕ → List ℕ → List ℕ
-forgotten zero heap = heap
-forgotten (suc s) heap = put16 (forgotten s heap) (further_from + further_bytes * s) 0
 
 ----------------------------------------------------------------
 -- Looking for a key

@@ -2,32 +2,20 @@
 // an inr or a function names what it unfolds to. With an alias kept, such an unfolding is compared by numbers like any entry. Which entry it could be
 // is told by the key that the part has with its own parts put in; whether it is, by comparing, once a part. An alias that is not found costs nothing but
 // time: the part is then compared node by node.
-ghost use Rattle.std.specs.Prelude.{◌≡◌, map, ℕ, ◌+◌, ◌≤◌, ◌<◌, length, get_or};
+ghost use Rattle.std.specs.Prelude.{map, ℕ, ◌+◌, ◌≤◌, ◌<◌, length, get_or};
 ghost use Rattle.rules.specs.Limits.{max_types};
 ghost use Rattle.calls.specs.Entries.{type_at};
 ghost use Rattle.program.specs.Parts.{TermField};
 ghost use Rattle.types.specs.Layout.{typing_bytes};
 ghost use Rattle.types.specs.Figures.{Figured};
 ghost use Rattle.types.specs.Codes.{Readable};
-ghost use Rattle.types.specs.Numbering.{with_alias, Traceable};
+ghost use Rattle.types.specs.Numbering.{slots, Traceable};
 
 use crate::codes::Code;
 use crate::numbering::SLOT_COUNT;
-use crate::{codes, compare, figures, further, hints, numbering, parts};
+use crate::{codes, compare, figures, hints, numbering, parts};
 use program::{kinds, views};
 use rules::MAX_TYPES;
-
-// The alias of entry `i`, entry `j` standing for its outermost free variable: with the figures, unless another is there.
-fn put(ws: &mut [u8], i: u16, j: u16, alias: u16)
-    requires { (typing_bytes ≤ length ws.old) × (i < max_types) × (j < max_types) }
-    ensures { ws.new ≡ with_alias ws.old i j alias }
-{
-    if figures::stand_of(ws, i) == 0 {
-        figures::put_alias(ws, i, j, alias);
-        return;
-    }
-    further::put(ws, i, j, alias);
-}
 
 // The entry that has the key is the alias of entry `i`, with entry `j` for its outermost free variable, if both are equal as trees. Answers the code of
 // what that is: the alias, by its number, so that the wholes above are found by keys too, or else the part itself.
@@ -53,7 +41,7 @@ fn keep(
     let alias = figures::number_of(ws, k as u16);
     let whole = codes::entry(alias);
     if compare::same(p, types, ws, 0, part, whole) {
-        put(ws, i, j, alias);
+        figures::put_alias(ws, i, j, alias);
         return whole;
     }
     part

@@ -7,23 +7,14 @@ use crate::codes::Code;
 use crate::{codes, parts};
 use program::kinds;
 
-// Is the type exactly unit? Asked often, so that no number is read: an entry's field tells its kind, and a variable that stands for an entry is unit if
-// that is.
+// Is the type exactly unit?
 pub fn is_unit(p: &[u8], types: &[u16], ws: &[u8], top: u32, c: Code) -> bool
     requires sources { Sources p.now types.now ws.now top }
     requires known { Known (length types.now) top c }
     ensures { result ≡ is_unit (tree_in p.now types.now ws.now c) }
 {
-    let kind = parts::kind_of(p, types, ws, top, c);
-    if kind != kinds::TYPE_VARIABLE {
-        return kind == kinds::UNIT_TYPE;
-    }
-    let form = c.form;
-    if form == codes::UNDER {
-        let d = codes::entry(c.stands);
-        return parts::kind_of(p, types, ws, top, d) == kinds::UNIT_TYPE;
-    }
-    false
+    let d = parts::settled(p, types, ws, top, c);
+    parts::kind_of(p, types, ws, top, d) == kinds::UNIT_TYPE
 }
 
 // Are the types equal, by their outermost nodes? Entries are told equal or apart in one step, by their numbers (02, F-4), and codes that settle alike

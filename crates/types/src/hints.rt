@@ -1,9 +1,9 @@
-// Hints at the codes of products, in lent bytes behind further aliases (02, F-4): the codes of a product's two parts fall on a slot, and the slot has a code
+// Hints at the codes of products, in lent bytes behind the figures (02, F-4): the codes of a product's two parts fall on a slot, and the slot has a code
 // that a product of such parts may have. A hint is a guess: it is held to the parts before it is used, so that any bytes may stand there, what an earlier
 // function left or what two products on one slot overwrote. A product that is not found costs nothing but time.
 ghost use Rattle.std.specs.Prelude.{◌≡◌, true, ◌+◌, ◌*◌, ◌≤◌, ◌<◌, length};
 ghost use Rattle.rules.specs.Ty.{prod};
-ghost use Rattle.types.specs.Layout.{hint_bytes, hints_from, typing_bytes};
+ghost use Rattle.types.specs.Layout.{hint_bytes, hints_from, hint_slots, typing_bytes};
 ghost use Rattle.types.specs.Codes.{tree_in, Sources, Known};
 ghost use Rattle.types.specs.Growth.{Noted, Hinted};
 ghost use Rattle.calls.specs.Entries.{type_at};
@@ -12,7 +12,7 @@ ghost use Rattle.program.specs.Parts.{TypeField};
 ghost use Rattle.rules.specs.Limits.{max_types};
 
 use crate::codes::Code;
-use crate::further::FURTHER_END;
+use crate::figures::FIGURES_END;
 use crate::{codes, figures, nodes, parts};
 use program::{kinds, views};
 
@@ -41,7 +41,7 @@ fn place(left: Code, right: Code) -> usize
     ensures { (hints_from ≤ result) × (result + hint_bytes ≤ typing_bytes) }
 {
     let slot = (mixed(left) + RIGHT * mixed(right)) % HINT_SLOTS;
-    FURTHER_END + HINT_BYTES * slot
+    FIGURES_END + HINT_BYTES * slot
 }
 
 // The code names a type entry or a product node.

@@ -4,7 +4,6 @@
 pub mod codes; // codes.rt: what a code is
 pub mod nodes; // nodes.rt: product nodes in lent bytes
 pub mod figures; // figures.rt: what is kept of each type entry, behind them
-pub mod further; // further.rt: further aliases, behind the figures
 pub mod parts; // parts.rt: the outermost node of a type, one part at a time
 pub mod shapes; // shapes.rt: the same, whole
 pub mod unfolding; // unfolding.rt: what a recursive entry unfolds to

@@ -10,7 +10,7 @@ ghost use Rattle.types.specs.Layout.{typing_bytes};
 ghost use Rattle.types.specs.Codes.{Readable};
 ghost use Rattle.types.specs.Numbering.{slots, slot_of, packed, share, two_of, recursive_of, bound_of, figure_of, number_from, Finds, Numbered};
 
-use crate::{counting, figures, further, hints};
+use crate::{counting, figures, hints};
 use program::{kinds, views};
 
 // A prime, some four times as many as there can be entries.
@@ -198,7 +198,6 @@ pub fn number_types(p: &[u8], types: &[u16], ws: &mut [u8], keys: &mut [u32], in
     requires keys_len { (length keys.old ≡ max_types) × (length index.old ≡ slots) }
     ensures { Numbered p.now types.now ws.new keys.new index.new (length types.now) }
 {
-    further::forget(ws);
     let mut i = 0;
     while i < types.len() {
         enter(p, types, ws, keys, index, i);

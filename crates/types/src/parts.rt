@@ -4,38 +4,35 @@ ghost use Rattle.std.specs.Prelude.{◌≡◌, ◌≤◌, ◌<◌, length};
 ghost use Rattle.rules.specs.Limits.{max_types};
 ghost use Rattle.program.specs.Kinds.{unit_type_kind, recursive_kind, type_variable_kind};
 ghost use Rattle.types.specs.Layout.{typing_bytes};
-ghost use Rattle.types.specs.Figures.{number_at};
 ghost use Rattle.types.specs.Codes.{under_form, Sources, Known};
 ghost use Rattle.types.specs.Shapes.{part, plain_shape, Settled};
 
 use crate::codes::Code;
-use crate::{codes, figures, further, nodes};
+use crate::{codes, figures, nodes};
 use program::kinds;
 
-// The code of a type in which a variable stands for an entry; `i` is the number of the entry that has the variable. Where it is closed, has an alias
-// for what stands, or is the variable, it is an entry's. Further aliases are looked for only where there is a first.
-fn settled_under(p: &[u8], types: &[u16], ws: &[u8], top: u32, c: Code, i: u16) -> Code
+// The code of a type in which a variable stands for an entry. Where the entry is closed, has an alias for what stands, or is the variable, it is an
+// entry's.
+fn settled_under(p: &[u8], types: &[u16], ws: &[u8], top: u32, c: Code) -> Code
     requires sources { Sources p.now types.now ws.now top }
-    requires known { Known (length types.now) top c × (c.form ≡ under_form) × (i ≡ number_at ws.now c.at) }
+    requires known { Known (length types.now) top c × (c.form ≡ under_form) }
     ensures { Settled p.now types.now ws.now top c result }
 {
+    let i = figures::number_of(ws, c.at);
     if figures::free_of(ws, i) == 0 {
         return codes::entry(i);
     }
     let j = figures::number_of(ws, c.stands);
-    let stands = octets::wide32(figures::stand_of(ws, i));
-    if stands == octets::wide32(j) + 1 {
-        return codes::entry(figures::alias_of(ws, i));
+    if octets::wide32(figures::stand_of(ws, i)) == octets::wide32(j) + 1 {
+        let alias = figures::alias_of(ws, i);
+        return codes::entry(figures::number_of(ws, alias));
     }
     let at = octets::wide_index(types[octets::wide_index(i)]);
     let kind = program::views::kind(p, at);
     if kind == kinds::TYPE_VARIABLE {
         return codes::entry(j);
     }
-    if stands == 0 {
-        return codes::under(i, j);
-    }
-    further::recall(ws, i, j)
+    codes::under(i, j)
 }
 
 // A code of the same type, by the numbers of its entries, whose entry is not that variable.
@@ -45,17 +42,13 @@ pub fn settled(p: &[u8], types: &[u16], ws: &[u8], top: u32, c: Code) -> Code
     ensures { Settled p.now types.now ws.now top c result }
 {
     let form = c.form;
-    if form == codes::UNIT {
-        return c;
-    }
-    if form == codes::PRODUCT {
-        return c;
-    }
-    let i = figures::number_of(ws, c.at);
     if form == codes::ENTRY {
-        return codes::entry(i);
+        return codes::entry(figures::number_of(ws, c.at));
     }
-    settled_under(p, types, ws, top, c, i)
+    if form == codes::UNDER {
+        return settled_under(p, types, ws, top, c);
+    }
+    c
 }
 
 pub fn kind_of(p: &[u8], types: &[u16], ws: &[u8], top: u32, c: Code) -> u8

@@ -1,24 +1,22 @@
 -- What a function of typing asks for, put together where it is called.
 use Prim.Native.Nat.{ℕ, ◌+◌, ◌≤◌, ◌<◌}
 use native.Mathlib.Omega.{arith}
-use mathlib.Core.Path.{◌≡◌}
-use mathlib.Core.Bool.{true}
 use mathlib.Core.List.{List}
 use lib.ListN.{length}
 use package.Rattle.rules.specs.Limits.{max_variables, max_terms}
 use package.Rattle.rules.specs.Term.{Term, var, tunit, tinl, tinr, tpair, tlet, tletp, tcase, tcall, troll, tunroll}
+use package.Rattle.calls.specs.Fields.{kind_at}
 use package.Rattle.program.specs.Parts.{first, second, third}
 use package.Rattle.program.specs.Signatures.{SignaturesAre}
-use package.Rattle.program.specs.Kinds.{case_kind}
+use package.Rattle.program.specs.Kinds.{inl_kind, inr_kind, case_kind}
 use package.Rattle.types.specs.declared.codes.Code.{Code}
 use package.Rattle.types.specs.Codes.{Known}
 use package.Rattle.varsets.specs.declared.Uses.{Uses}
 use package.Rattle.typing.specs.Contexts.{UsedBy}
 use package.Rattle.typing.specs.Sizes.{terms_in, terms_in_all}
 use package.Rattle.typing.specs.Waiting.{count_in}
-use package.Rattle.typing.specs.Wants.{unary}
 use package.Rattle.typing.specs.Ready.{term_in, terms_from, Ready, Here, Calls}
-use package.Rattle.typing.specs.Asked.{ReadyFor, ReadyAt, ReadyUnary, ReadyBranches, ReadyArguments}
+use package.Rattle.typing.specs.Asked.{ReadyFor, ReadyAt, ReadyInject, ReadyBranches, ReadyArguments}
 use Rattle.typing.specs.declared.outcomes.Scope.{Scope}
 
 some_terms : (t : Term) → 1 ≤ terms_in t
@@ -45,9 +43,10 @@ module _ {p types terms functions : List ℕ} {table : List (List ℕ)} {nodes h
       → ReadyAt p types terms functions table nodes heap vars sc top t at kind
   ready_at R H = record { ready = R.ready; signed = R.signed; here = H }
 
-  pub ready-unary : {at kind : ℕ} → ReadyFor p types terms functions table nodes heap vars sc top t → Here p terms t at kind → unary kind ≡ true
-      → ReadyUnary p types terms functions table nodes heap vars sc top t at kind
-  ready-unary R H one = record { ready = R.ready; signed = R.signed; here = H; single = one }
+  pub ready_inject : {at : ℕ} → ReadyFor p types terms functions table nodes heap vars sc top t
+      → Here p terms t at (kind_at p at) × (inl_kind ≤ kind_at p at) × (kind_at p at ≤ inr_kind)
+      → ReadyInject p types terms functions table nodes heap vars sc top t at
+  ready_inject R (H, least, most) = record { ready = R.ready; signed = R.signed; here = H; least = least; most = most }
 
   -- of another term, branches or arguments, with the table of the whole
   module _ (S : SignaturesAre p functions table) where

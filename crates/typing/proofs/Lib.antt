@@ -15,14 +15,8 @@ pub mod Naming
 pub mod Answers
 -- the tree of a term entry by its kind, and its parts
 pub mod Trees
--- a part whose type is demanded, variables, unit
+-- variables, unit, inl and inr, roll, unroll
 pub mod Steps
--- the kinds of terms with a type and one part
-pub mod UnaryKinds
--- what such a term wants on entering
-pub mod Wanting
--- terms with one part
-pub mod Unary
 -- pairs
 pub mod Pairing
 -- room in the scope, the scope of a bound term, and the end of a let

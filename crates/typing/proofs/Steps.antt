@@ -1,34 +1,48 @@
--- What a part whose type is demanded, a variable and unit do, from what the calls before them ensure.
-use Prim.Native.Nat.{ℕ}
+-- What each kind of term that binds nothing does, from what the calls before it ensure: variables, unit, a part whose type is demanded,
+-- inl and inr, roll, unroll.
+use Prim.Native.Nat.{ℕ, zero, suc, ◌≤◌, ◌<◌}
 use native.Mathlib.Omega.{arith}
-use mathlib.Core.Path.{◌≡◌, refl, sym, ap, subst, ◌∙◌}
+use mathlib.Core.Path.{◌≡◌, refl, sym, ap, ap₂, subst, ◌∙◌}
+use mathlib.Core.Logic.{◌⊎◌, ⊎_elim, inl as left, inr as right}
 use mathlib.Core.Bool.{Bool, true, false}
 use mathlib.Core.List.{List, map}
-use lib.ListN.{length}
-use package.Rattle.rules.specs.Ty.{Ty, same_ty}
-use package.Rattle.rules.specs.Term.{Term, var, tunit, used_in}
-use package.Rattle.rules.specs.Check.{Naming, term, Checked, good, ◌>>◌, need, waits, waits_in, infer}
-use package.Rattle.calls.specs.Entries.{type_at}
-use package.Rattle.program.specs.Parts.{variable}
-use package.Rattle.program.specs.Kinds.{variable_kind, unit_kind}
+use lib.ListN.{length, get_or}
+use lib.Dec.{leb}
+use package.Rattle.rules.specs.Limits.{max_nodes}
+use package.Rattle.rules.specs.Ty.{Ty, nodes as nodesIn, same_ty}
+use package.Rattle.rules.specs.Term.{Term, var, tunit, tinl, tinr, troll, tunroll, used_in}
+use package.Rattle.rules.specs.Check.{Naming, term, Checked, good, ◌>>◌, need, waits, waits_in, small, infer}
+use package.Rattle.calls.specs.Entries.{type_at, type_of}
+use package.Rattle.calls.specs.Named.{closed}
+use package.Rattle.program.specs.Parts.{variable, first, second}
+use package.Rattle.program.specs.Kinds.{inl_kind, inr_kind, sum_kind, variable_kind, unit_kind, roll_kind, unroll_kind}
 use package.Rattle.types.specs.declared.codes.Code.{Code}
-use package.Rattle.types.specs.Codes.{unit_code, tree_in, Known, Sources}
-use package.Rattle.types.proofs.Trees.{tree-unit as unit-tree}
-use package.Rattle.types.proofs.Outer.{unit-known}
+use package.Rattle.types.specs.declared.shapes.Shape.{Shape}
+use package.Rattle.types.specs.Codes.{unit_code, entry_code, tree_in, Known, Sources}
+use package.Rattle.types.specs.Shapes.{Shaped}
+use package.Rattle.types.specs.Unfolding.{body_of, Unfolds}
+use package.Rattle.types.specs.declared.unfolding.Body.{Body}
+use package.Rattle.types.specs.declared.unfolding.Body.TheVariants.{Of, Other}
+use package.Rattle.types.proofs.Trees.{tree-unit as unit-tree, tree-entry}
+use package.Rattle.types.proofs.Outer.{unit-known, entry_known}
+use package.Rattle.types.proofs.Asked.{sum-tree, a_sum, no-sum}
 use package.Rattle.types.proofs.Growing.{agree_refl}
+use package.Rattle.types.proofs.Unfold.{unfolds, recursive, not_recursive}
 use package.Rattle.typing.specs.Contexts.{UsedBy}
 use package.Rattle.typing.specs.Sizes.{terms_in}
 use package.Rattle.typing.specs.Outcomes.{fault_of}
-use package.Rattle.typing.specs.Ready.{term_in, variable_at, context_in, typing_of, demanded, Ready, Here, Kept, Inferred, Seen, Bare, After, Expects}
+use package.Rattle.typing.specs.Ready.{term_in, variable_at, context_in, typing_of, type_in, demanded, Ready, Here, Kept, Inferred, Seen, Bare, After, Expects}
 use package.Rattle.typing.specs.Waiting.{Waited}
 use package.Rattle.typing.specs.Asked.{Infers}
 use package.Rattle.typing.proofs.Contexts.{waits-context}
 use package.Rattle.typing.proofs.Waiting.{added_none}
-use package.Rattle.typing.proofs.Answers.{Ends, ends-refused, ends-typed, inferred, kept-still, tree_later, known_later, need_yes, need-no}
-use package.Rattle.typing.proofs.Answers.{part-tested}
-use package.Rattle.typing.proofs.Trees.{tree-var, tree-unit}
+use package.Rattle.typing.proofs.Answers.{Ends, ends-refused, ends-typed, inferred, kept-still, tree_later, known_later, stopped, need_yes, need-no}
+use package.Rattle.typing.proofs.Answers.{around, part-tested, ready-less}
+use package.Rattle.typing.proofs.Trees.{tree-var, tree-unit, tree_inl, tree_inr, parts_inject, tree-roll, parts-roll, closed-roll, tree_unroll, parts_unroll, closed_unroll}
 use Rattle.typing.specs.declared.outcomes.Scope.{Scope}
 use Rattle.typing.specs.declared.outcomes.Found.{Found}
+use Rattle.typing.specs.declared.outcomes.Fault.TheVariants.{Differ}
+use Rattle.typing.specs.declared.outcomes.Status.TheVariants.{Refused}
 use Rattle.typing.specs.declared.outcomes.Out.{Out}
 
 ----------------------------------------------------------------
@@ -99,3 +113,212 @@ module _ {p types terms functions nodes heap vars : List ℕ} {sc : Scope} {top 
     where
       is : term_in p types terms t ≡ tunit t
       is = tree-unit rd.entries H
+
+----------------------------------------------------------------
+-- inl and inr
+
+-- the whole type, as it is named
+module _ (p types heap : List ℕ) {i : ℕ} (at : ℕ) (q : i ≡ first p at) {whole : Code} (w : whole ≡ entry_code i) where
+  whole_tree : tree_in p types heap whole ≡ type_of (map (type_at p) types) (first p at)
+  whole_tree = ap (tree_in p types heap) w ∙ tree-entry (map (type_at p) types) heap (entry_code i) refl ∙ ap (type_of (map (type_at p) types)) q
+
+  pub whole_known : {top : ℕ} → first p at < length types → Known (length types) top whole
+  whole_known l = subst (Known (length types) _) (sym w) (entry_known i (omega arith))
+
+module _ {p types terms functions nodes heap vars : List ℕ} {sc : Scope} {top t at kind : ℕ}
+    (rd : Ready (terms_in (term_in p types terms t)) p types terms functions nodes heap vars sc top)
+    (H : Here p terms t at kind) (lo : 2 ≤ kind) (hi : kind ≤ 3) {i part : ℕ} (q : i ≡ first p at) (q' : part ≡ second p at) {whole : Code}
+    (w : whole ≡ entry_code i) where
+  abbrev rule : Checked Ty
+  rule = type_in p types terms functions heap vars sc t
+
+  abbrev E : Term
+  E = term_in p types terms part
+
+  -- inl over its part, inr over its part
+  tree-left : kind ≡ inl_kind → term_in p types terms t ≡ tinl t (tree_in p types heap whole) E
+  tree-left e = tree_inl rd.entries (subst (Here p terms t at) e H)
+      ∙ ap₂ (tinl t) (sym (whole_tree p types heap at q w)) (ap (term_in p types terms) (sym q'))
+
+  tree-right : kind ≡ inr_kind → term_in p types terms t ≡ tinr t (tree_in p types heap whole) E
+  tree-right e = tree_inr rd.entries (subst (Here p terms t at) e H)
+      ∙ ap₂ (tinr t) (sym (whole_tree p types heap at q w)) (ap (term_in p types terms) (sym q'))
+
+  two_or_three : (kind ≡ inl_kind) ⊎ (kind ≡ inr_kind)
+  two_or_three = by kind lo hi
+    where
+      by : (k : ℕ) → 2 ≤ k → k ≤ 3 → (k ≡ 2) ⊎ (k ≡ 3)
+      by zero l u = absurd (omega arith)
+      by (suc zero) l u = absurd (omega arith)
+      by (suc (suc zero)) l u = left refl
+      by (suc (suc (suc zero))) l u = right refl
+      by (suc (suc (suc (suc k)))) l u = absurd (omega arith)
+
+  size-left : kind ≡ inl_kind → suc (terms_in E) ≡ terms_in (term_in p types terms t)
+  unfolding terms_in
+  size-left e = sym (ap terms_in (tree-left e))
+
+  size-right : kind ≡ inr_kind → suc (terms_in E) ≡ terms_in (term_in p types terms t)
+  unfolding terms_in
+  size-right e = sym (ap terms_in (tree-right e))
+
+  size_inject : suc (terms_in E) ≡ terms_in (term_in p types terms t)
+  size_inject = ⊎_elim size-left size-right two_or_three
+
+  pub inject_ready : Ready (terms_in (term_in p types terms part)) p types terms functions nodes heap vars sc top
+  inject_ready = ready-less rd _ (omega (arith, size_inject))
+
+  pub inject_part : (part < t) × (part < length terms)
+  inject_part = rw q' (parts_inject rd.entries kind H lo hi).1
+
+  pub inject_whole : Known (length types) top whole
+  inject_whole = whole_known p types heap at q w (parts_inject rd.entries kind H lo hi).0
+
+  module _ {s : Shape} (S : Shaped p types heap top whole s) where
+    pub inject_no : {r : Out} → ¬ (s.kind ≡ sum_kind) → r.status ≡ Refused (Differ t) → r.top ≡ top
+        → Infers p types terms functions heap heap vars vars sc top t r
+    unfolding infer fault_of
+    inject_no n e x = stopped _ sc.n vars rd.scoped.sources e x (⊎_elim
+        (λ k. ap (typing_of p types terms functions (context_in p types heap vars sc)) (tree-left k) ∙ no-sum S (term t) _ n)
+        (λ k. ap (typing_of p types terms functions (context_in p types heap vars sc)) (tree-right k) ∙ no-sum S (term t) _ n)
+        two_or_three)
+
+    module _ (sum-kind : s.kind ≡ sum_kind) {heap' vars' : List ℕ} {out : Out} where
+      pub inject_left : kind ≡ inl_kind
+          → Inferred (terms_in E) E (waits_in (context_in p types heap vars sc) E) p types heap heap' sc.n vars vars' top out
+          (demanded (type_in p types terms functions heap vars sc part) (tree_in p types heap s.first) (tree_in p types heap whole) t)
+          → Infers p types terms functions heap heap' vars vars' sc top t out
+      unfolding infer waits
+      inject_left k d = around d _ (λ i. ap (used_in i) (tree-left k)) (ap (waits_in (context_in p types heap vars sc)) (tree-left k)) (omega (arith, size_inject))
+          (ap (typing_of p types terms functions (context_in p types heap vars sc)) (tree-left k) ∙ a_sum S (term t) _ sum-kind
+          ∙ ap (λ c. demanded (type_in p types terms functions heap vars sc part) (tree_in p types heap s.first) c t) (sym (sum-tree S sum-kind)))
+
+      pub inject_right : ¬ (kind ≡ inl_kind)
+          → Inferred (terms_in E) E (waits_in (context_in p types heap vars sc) E) p types heap heap' sc.n vars vars' top out
+          (demanded (type_in p types terms functions heap vars sc part) (tree_in p types heap s.second) (tree_in p types heap whole) t)
+          → Infers p types terms functions heap heap' vars vars' sc top t out
+      unfolding infer waits
+      inject_right n d = let k : kind ≡ inr_kind = omega arith in
+          around d _ (λ i. ap (used_in i) (tree-right k)) (ap (waits_in (context_in p types heap vars sc)) (tree-right k)) (omega (arith, size_inject))
+          (ap (typing_of p types terms functions (context_in p types heap vars sc)) (tree-right k) ∙ a_sum S (term t) _ sum-kind
+          ∙ ap (λ c. demanded (type_in p types terms functions heap vars sc part) (tree_in p types heap s.second) c t) (sym (sum-tree S sum-kind)))
+
+----------------------------------------------------------------
+-- roll and unroll
+
+module _ {p types terms functions nodes heap vars : List ℕ} {sc : Scope} {top t at : ℕ}
+    (rd : Ready (terms_in (term_in p types terms t)) p types terms functions nodes heap vars sc top)
+    (H : Here p terms t at roll_kind) {i part : ℕ} (q : i ≡ first p at) (q' : part ≡ second p at) where
+  rolled : term_in p types terms t ≡ troll t (tree_in p types heap (entry_code i)) (term_in p types terms part)
+  rolled = tree-roll rd.entries H ∙ ap₂ (troll t) (sym (whole_tree p types heap at q refl)) (ap (term_in p types terms) (sym q'))
+
+  size_roll : suc (terms_in (term_in p types terms part)) ≡ terms_in (term_in p types terms t)
+  unfolding terms_in
+  size_roll = sym (ap terms_in rolled)
+
+  pub roll-ready : Ready (terms_in (term_in p types terms part)) p types terms functions nodes heap vars sc top
+  roll-ready = ready-less rd _ (omega (arith, size_roll))
+
+  pub roll-part : (part < t) × (part < length terms)
+  roll-part = rw q' (parts-roll rd.entries H).1
+
+  pub roll_type : i < length types
+  roll_type = rw q (parts-roll rd.entries H).0
+
+  roll-closed : closed 0 (type_of (map (type_at p) types) i) ≡ true
+  roll-closed = rw q (closed-roll rd.entries H)
+
+  pub roll_whole : {whole : Code} → whole ≡ entry_code i → Known (length types) top whole
+  roll_whole w = subst (Known (length types) top) (sym w) (entry_known i roll_type)
+
+  module _ {b : Body} (e : b ≡ body_of heap (type_at p (get_or types i 0)) i) where
+    pub roll-no : {r : Out} → b ≡ Other → r.status ≡ Refused (Differ t) → r.top ≡ top
+        → Infers p types terms functions heap heap vars vars sc top t r
+    unfolding infer fault_of
+    roll-no n s x = stopped _ sc.n vars rd.scoped.sources s x
+        (ap (typing_of p types terms functions (context_in p types heap vars sc)) rolled ∙ not_recursive rd.scoped.sources i roll_type roll-closed (term t) _ (sym n ∙ e))
+
+    module _ {c : Code} (o : b ≡ Of c) where
+      roll-unfolds : Unfolds p types heap top i c
+      roll-unfolds = unfolds rd.scoped.sources i roll_type roll-closed (sym o ∙ e)
+
+      pub roll-known : Known (length types) top c
+      roll-known = roll-unfolds.known
+
+      pub roll_done : {whole : Code} → whole ≡ entry_code i → {heap' vars' : List ℕ} {out : Out}
+          → Inferred (terms_in (term_in p types terms part)) (term_in p types terms part) (waits_in (context_in p types heap vars sc) (term_in p types terms part))
+          p types heap heap' sc.n vars vars' top out
+          (demanded (type_in p types terms functions heap vars sc part) (tree_in p types heap c) (tree_in p types heap whole) t)
+          → Infers p types terms functions heap heap' vars vars' sc top t out
+      unfolding infer waits
+      roll_done w d = around d _ (λ i. ap (used_in i) rolled) (ap (waits_in (context_in p types heap vars sc)) rolled) (omega (arith, size_roll))
+          (ap (typing_of p types terms functions (context_in p types heap vars sc)) rolled
+          ∙ recursive rd.scoped.sources i roll_type roll-closed (term t) _ roll-unfolds
+          ∙ ap₂ (λ c τ. demanded (type_in p types terms functions heap vars sc part) c τ t) (sym roll-unfolds.tree)
+          (sym (ap (tree_in p types heap) w ∙ roll-unfolds.whole)))
+
+module _ {p types terms functions nodes heap vars : List ℕ} {sc : Scope} {top t at : ℕ}
+    (rd : Ready (terms_in (term_in p types terms t)) p types terms functions nodes heap vars sc top)
+    (H : Here p terms t at unroll_kind) {i part : ℕ} (q : i ≡ first p at) (q' : part ≡ second p at) where
+  unrolled : term_in p types terms t ≡ tunroll t (tree_in p types heap (entry_code i)) (term_in p types terms part)
+  unrolled = tree_unroll rd.entries H ∙ ap₂ (tunroll t) (sym (whole_tree p types heap at q refl)) (ap (term_in p types terms) (sym q'))
+
+  size_unroll : suc (terms_in (term_in p types terms part)) ≡ terms_in (term_in p types terms t)
+  unfolding terms_in
+  size_unroll = sym (ap terms_in unrolled)
+
+  pub unroll_ready : Ready (terms_in (term_in p types terms part)) p types terms functions nodes heap vars sc top
+  unroll_ready = ready-less rd _ (omega (arith, size_unroll))
+
+  pub unroll_part : (part < t) × (part < length terms)
+  unroll_part = rw q' (parts_unroll rd.entries H).1
+
+  pub unroll_type : i < length types
+  unroll_type = rw q (parts_unroll rd.entries H).0
+
+  unroll_closed : closed 0 (type_of (map (type_at p) types) i) ≡ true
+  unroll_closed = rw q (closed_unroll rd.entries H)
+
+  pub unroll_whole : {whole : Code} → whole ≡ entry_code i → Known (length types) top whole
+  unroll_whole w = subst (Known (length types) top) (sym w) (entry_known i unroll_type)
+
+  module _ {b : Body} (e : b ≡ body_of heap (type_at p (get_or types i 0)) i) where
+    pub unroll_no : {r : Out} → b ≡ Other → r.status ≡ Refused (Differ t) → r.top ≡ top
+        → Infers p types terms functions heap heap vars vars sc top t r
+    unfolding infer fault_of
+    unroll_no n s x = stopped _ sc.n vars rd.scoped.sources s x
+        (ap (typing_of p types terms functions (context_in p types heap vars sc)) unrolled
+        ∙ not_recursive rd.scoped.sources i unroll_type unroll_closed (term t) _ (sym n ∙ e))
+
+    module _ {c : Code} (o : b ≡ Of c) where
+      unroll_unfolds : Unfolds p types heap top i c
+      unroll_unfolds = unfolds rd.scoped.sources i unroll_type unroll_closed (sym o ∙ e)
+
+      pub unroll_known : Known (length types) top c
+      unroll_known = unroll_unfolds.known
+
+      unroll_rule : type_in p types terms functions heap vars sc t
+          ≡ (need (leb (nodesIn (tree_in p types heap c)) max_nodes) 6 (term t)
+          >> demanded (type_in p types terms functions heap vars sc part) (tree_in p types heap (entry_code i)) (tree_in p types heap c) t)
+      unfolding infer small
+      unroll_rule =
+          ap (typing_of p types terms functions (context_in p types heap vars sc)) unrolled
+          ∙ recursive rd.scoped.sources i unroll_type unroll_closed (term t) _ unroll_unfolds
+          ∙ ap₂ (λ τ c. need (leb (nodesIn τ) max_nodes) 6 (term t) >> demanded (type_in p types terms functions heap vars sc part) c τ t)
+          (sym unroll_unfolds.tree) (sym unroll_unfolds.whole)
+
+      module _ {ok : Bool} (within : ok ≡ leb (nodesIn (tree_in p types heap c)) max_nodes) where
+        pub unroll_large : {r : Out} → ok ≡ false → r.status ≡ Refused (Differ t) → r.top ≡ top
+            → Infers p types terms functions heap heap vars vars sc top t r
+        unfolding fault_of
+        unroll_large n s x = stopped _ sc.n vars rd.scoped.sources s x (unroll_rule ∙ need-no _ _ _ _ (sym within ∙ n))
+
+        pub unroll_done : {whole : Code} → ok ≡ true → whole ≡ entry_code i → {heap' vars' : List ℕ} {out : Out}
+            → Inferred (terms_in (term_in p types terms part)) (term_in p types terms part) (waits_in (context_in p types heap vars sc) (term_in p types terms part))
+            p types heap heap' sc.n vars vars' top out
+            (demanded (type_in p types terms functions heap vars sc part) (tree_in p types heap whole) (tree_in p types heap c) t)
+            → Infers p types terms functions heap heap' vars vars' sc top t out
+        unfolding waits
+        unroll_done y w d = around d _ (λ i. ap (used_in i) unrolled) (ap (waits_in (context_in p types heap vars sc)) unrolled) (omega (arith, size_unroll))
+            (unroll_rule ∙ need_yes _ _ _ _ (sym within ∙ y)
+            ∙ ap (λ w. demanded (type_in p types terms functions heap vars sc part) (tree_in p types heap w) (tree_in p types heap c) t) (sym w))

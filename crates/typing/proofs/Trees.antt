@@ -1,5 +1,5 @@
 -- The tree of a term entry, by the kind of its field, and what its parts are: lower entries, and types and functions that are there.
-use Prim.Native.Nat.{ℕ, ◌+◌, ◌*◌, ◌≤◌, ◌<◌}
+use Prim.Native.Nat.{ℕ, zero, suc, ◌+◌, ◌*◌, ◌≤◌, ◌<◌}
 use native.Mathlib.Omega.{arith}
 use mathlib.Core.Path.{◌≡◌, refl, sym, ap, subst, ◌∙◌}
 use mathlib.Core.Bool.{true}
@@ -24,21 +24,28 @@ use package.Rattle.typing.specs.Ready.{term_in, Entered, Here}
 pub here : {p terms : List ℕ} {t at kind k : ℕ} → t < length terms → at ≡ get_or terms t 0 → kind ≡ kind_at p at → kind ≡ k → Here p terms t at k
 here l e g q = record { there = l; place = e; form = sym g ∙ q }
 
--- A field with a type and a term: it can be read, the type is there and closed (section 1), the term is lower, and so there.
-pub record Single (p types terms : List ℕ) (t at : ℕ) : Type 0 where
-  pub room : at + 8 ≤ length p
-  pub type : first p at < length types
-  pub shut : closed 0 (type_of (map (type_at p) types) (first p at)) ≡ true
-  pub lower : second p at < t
-  pub there : second p at < length terms
+-- inl and inr, which one function takes
+injected : {p terms : List ℕ} {t at k : ℕ} → Here p terms t at k → 2 ≤ k → k ≤ 3
+    → Here p terms t at (kind_at p at) × (inl_kind ≤ kind_at p at) × (kind_at p at ≤ inr_kind)
+injected h lo hi = (record { there = h.there; place = h.place; form = refl }, omega (arith, h.form), omega (arith, h.form))
+
+pub here_inl : {p terms : List ℕ} {t at : ℕ} → Here p terms t at inl_kind → Here p terms t at (kind_at p at) × (inl_kind ≤ kind_at p at) × (kind_at p at ≤ inr_kind)
+here_inl h = injected h (omega arith) (omega arith)
+
+pub here_inr : {p terms : List ℕ} {t at : ℕ} → Here p terms t at inr_kind → Here p terms t at (kind_at p at) × (inl_kind ≤ kind_at p at) × (kind_at p at ≤ inr_kind)
+here_inr h = injected h (omega arith) (omega arith)
+
+-- there is no twelfth kind
+pub from_five : {k : ℕ} → ¬ (k ≡ 0) → ¬ (k ≡ 1) → ¬ (k ≡ 2) → ¬ (k ≡ 3) → ¬ (k ≡ 4) → 5 ≤ k
+from_five a b c d e = omega arith
+
+pub no_twelfth : {k n : ℕ} → 5 ≤ k → ¬ (k ≡ 5) → ¬ (k ≡ 6) → ¬ (k ≡ 7) → ¬ (k ≡ 8) → ¬ (k ≡ 9) → ¬ (k ≡ 10) → k ≡ n → n < 11 → ⊥
+no_twelfth l a b c d e f q h = omega arith
 
 module _ {p types terms functions nodes : List ℕ} (E : Entered p types terms functions nodes) where
   -- the kind can be read, and is one of eleven
   pub kind-there : {t at : ℕ} → t < length terms → at ≡ get_or terms t 0 → (at + 4 ≤ length p) × (kind_at p at < 11)
   kind-there {t} l e = rw e (term-kind-room (E.formed.terms t l), term-kind (E.formed.terms t l))
-
-  pub kind-known : {t at kind : ℕ} → t < length terms → at ≡ get_or terms t 0 → kind ≡ kind_at p at → kind < 11
-  kind-known l e q = omega (arith, (kind-there l e).1)
 
   module _ {t at kind : ℕ} (H : Here p terms t at kind) where
     field-here : TermField p at
@@ -102,49 +109,68 @@ module _ {p types terms functions nodes : List ℕ} (E : Entered p types terms f
 
   module _ {t at kind : ℕ} (H : Here p terms t at kind) {x : TermEntry} (e : term_at p at ≡ x) (q : types_of_term x ≡ first p at ∷ [])
       (q' : terms_of_term x ≡ second p at ∷ []) where
+    typed-part : (first p at < length types) × Part t (second p at)
+    typed-part =
+        let l : second p at < t = (below-head t (second p at) [] (subst (λ is. below t is ≡ true) q' (lower_is H e))).0 in
+        ((below-head (length types) (first p at) [] (subst (λ is. below (length types) is ≡ true) q (types_are H e))).0, (l, omega (arith, H.there)))
+
+    -- a type that a term names is closed (section 1)
     closed-type : closed 0 (type_of (map (type_at p) types) (first p at)) ≡ true
     unfolding all_plain
     closed-type =
         ((plain_iff (map (type_at p) types) (first p at)).0
         (and_both (plain (map (type_at p) types) (first p at)) true (subst (λ is. all_plain (map (type_at p) types) is ≡ true) q (plain_are H e))).0).0
 
-    single : at + 8 ≤ length p → Single p types terms t at
-    single room =
-        let l : second p at < t = (below-head t (second p at) [] (subst (λ is. below t is ≡ true) q' (lower_is H e))).0 in
-        record {
-          room = room;
-          type = (below-head (length types) (first p at) [] (subst (λ is. below (length types) is ≡ true) q (types_are H e))).0;
-          shut = closed-type;
-          lower = l;
-          there = omega (arith, H.there);
-        }
-
   module _ {t at : ℕ} (H : Here p terms t at inl_kind) where
     pub tree_inl : term_in p types terms t ≡ tinl t (type_of (map (type_at p) types) (first p at)) (term_in p types terms (second p at))
     unfolding term_tree
     tree_inl = tree_is H (term_inl p at H.form)
 
-    pub single_inl : Single p types terms t at
-    unfolding types_of_term terms_of_term term_lengths
-    single_inl = single H (term_inl p at H.form) refl refl (two-room (field-here H) H.form refl)
+    parts_inl : (first p at < length types) × Part t (second p at)
+    unfolding types_of_term terms_of_term
+    parts_inl = typed-part H (term_inl p at H.form) refl refl
 
   module _ {t at : ℕ} (H : Here p terms t at inr_kind) where
     pub tree_inr : term_in p types terms t ≡ tinr t (type_of (map (type_at p) types) (first p at)) (term_in p types terms (second p at))
     unfolding term_tree
     tree_inr = tree_is H (term_inr p at H.form)
 
-    pub single_inr : Single p types terms t at
-    unfolding types_of_term terms_of_term term_lengths
-    single_inr = single H (term_inr p at H.form) refl refl (two-room (field-here H) H.form refl)
+    parts_inr : (first p at < length types) × Part t (second p at)
+    unfolding types_of_term terms_of_term
+    parts_inr = typed-part H (term_inr p at H.form) refl refl
+
+  -- of both kinds
+  pub parts_inject : {t at : ℕ} (kind : ℕ) → Here p terms t at kind → 2 ≤ kind → kind ≤ 3 → (first p at < length types) × Part t (second p at)
+  parts_inject zero H l u = absurd (omega arith)
+  parts_inject (suc zero) H l u = absurd (omega arith)
+  parts_inject (suc (suc zero)) H l u = parts_inl H
+  parts_inject (suc (suc (suc zero))) H l u = parts_inr H
+  parts_inject (suc (suc (suc (suc k)))) H l u = absurd (omega arith)
+
+  pub read_inject : {t at : ℕ} (kind : ℕ) → Here p terms t at kind → 2 ≤ kind → kind ≤ 3 → at + 8 ≤ length p
+  unfolding term_lengths
+  read_inject zero H l u = absurd (omega arith)
+  read_inject (suc zero) H l u = absurd (omega arith)
+  read_inject (suc (suc zero)) H l u = two-room (field-here H) H.form refl
+  read_inject (suc (suc (suc zero))) H l u = two-room (field-here H) H.form refl
+  read_inject (suc (suc (suc (suc k)))) H l u = absurd (omega arith)
 
   module _ {t at : ℕ} (H : Here p terms t at roll_kind) where
     pub tree-roll : term_in p types terms t ≡ troll t (type_of (map (type_at p) types) (first p at)) (term_in p types terms (second p at))
     unfolding term_tree
     tree-roll = tree_is H (term-roll p at H.form)
 
-    pub single-roll : Single p types terms t at
-    unfolding types_of_term terms_of_term term_lengths
-    single-roll = single H (term-roll p at H.form) refl refl (two-room (field-here H) H.form refl)
+    pub parts-roll : (first p at < length types) × Part t (second p at)
+    unfolding types_of_term terms_of_term
+    parts-roll = typed-part H (term-roll p at H.form) refl refl
+
+    pub closed-roll : closed 0 (type_of (map (type_at p) types) (first p at)) ≡ true
+    unfolding types_of_term terms_of_term
+    closed-roll = closed-type H (term-roll p at H.form) refl refl
+
+    pub read-roll : at + 8 ≤ length p
+    unfolding term_lengths
+    read-roll = two-room (field-here H) H.form refl
 
   module _ {t at : ℕ} (H : Here p terms t at unroll_kind) where
     ten : 10 ≤ kind_at p at
@@ -154,9 +180,17 @@ module _ {p types terms functions nodes : List ℕ} (E : Entered p types terms f
     unfolding term_tree
     tree_unroll = tree_is H (term_unroll p at ten)
 
-    pub single_unroll : Single p types terms t at
-    unfolding types_of_term terms_of_term term_lengths
-    single_unroll = single H (term_unroll p at ten) refl refl (two-room (field-here H) H.form refl)
+    pub parts_unroll : (first p at < length types) × Part t (second p at)
+    unfolding types_of_term terms_of_term
+    parts_unroll = typed-part H (term_unroll p at ten) refl refl
+
+    pub closed_unroll : closed 0 (type_of (map (type_at p) types) (first p at)) ≡ true
+    unfolding types_of_term terms_of_term
+    closed_unroll = closed-type H (term_unroll p at ten) refl refl
+
+    pub read_unroll : at + 8 ≤ length p
+    unfolding term_lengths
+    read_unroll = two-room (field-here H) H.form refl
 
   ----------------------------------------------------------------
   -- Two terms

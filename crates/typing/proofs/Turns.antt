@@ -30,10 +30,6 @@ unfolding typed ◌>>◌
 before L (good u) d e = absurd (refused≢accepted (sym e))
 before L (bad n p) d e = e
 
--- bytes that are as many have room for no fewer
-pub no_more : {n m : ℕ} → n ≡ m → m ≤ n
-no_more e = omega arith
-
 ----------------------------------------------------------------
 -- From a function on
 

@@ -1,20 +1,20 @@
 -- What each function that types a term asks for, one record a function, and what it ensures, one definition a function: over what a term
 -- asks and ensures (Ready), the table of signatures, and where the term stands.
-use Rattle.std.specs.Prelude.{ℕ, ◌+◌, ◌<◌, ◌≡◌, true, false, List, ◌∷◌, ◌++◌, length, get_or}
+use Rattle.std.specs.Prelude.{ℕ, ◌+◌, ◌≤◌, ◌<◌, false, List, ◌∷◌, ◌++◌, length, get_or}
 use package.Rattle.rules.specs.Limits.{max_variables}
 use package.Rattle.rules.specs.Ty.{Ty}
 use package.Rattle.rules.specs.Term.{Term}
 use package.Rattle.rules.specs.Typing.{dynamic, Context}
 use package.Rattle.rules.specs.Check.{Naming, waits_in}
+use package.Rattle.calls.specs.Fields.{kind_at}
 use package.Rattle.program.specs.Parts.{first, second, third}
 use package.Rattle.program.specs.Signatures.{SignaturesAre}
-use package.Rattle.program.specs.Kinds.{case_kind}
+use package.Rattle.program.specs.Kinds.{inl_kind, inr_kind, case_kind}
 use package.Rattle.types.specs.declared.codes.Code.{Code}
 use package.Rattle.types.specs.Codes.{tree_in, Known}
 use package.Rattle.varsets.specs.declared.Uses.{Uses}
 use package.Rattle.typing.specs.Contexts.{UsedBy}
 use package.Rattle.typing.specs.Sizes.{terms_in, terms_in_all}
-use package.Rattle.typing.specs.Wants.{unary}
 use package.Rattle.typing.specs.Ready.{term_in, context_in, type_in, branches_of, terms_from, Ready, Here, Inferred, Calls, Argued}
 use Rattle.typing.specs.declared.outcomes.Scope.{Scope}
 use Rattle.typing.specs.declared.outcomes.Out.{Out}
@@ -35,13 +35,14 @@ pub record ReadyAt (p types terms functions : List ℕ) (table : List (List ℕ)
   pub signed : SignaturesAre p functions table
   pub here : Here p terms t at kind
 
--- of term `t`, which has one part
-pub record ReadyUnary (p types terms functions : List ℕ) (table : List (List ℕ)) (nodes heap vars : List ℕ) (sc : Scope)
-    (top t at kind : ℕ) : Type 0 where
+-- of term `t`, which is an inl or an inr
+pub record ReadyInject (p types terms functions : List ℕ) (table : List (List ℕ)) (nodes heap vars : List ℕ) (sc : Scope)
+    (top t at : ℕ) : Type 0 where
   pub ready : Ready (terms_in (term_in p types terms t)) p types terms functions nodes heap vars sc top
   pub signed : SignaturesAre p functions table
-  pub here : Here p terms t at kind
-  pub single : unary kind ≡ true
+  pub here : Here p terms t at (kind_at p at)
+  pub least : inl_kind ≤ kind_at p at
+  pub most : kind_at p at ≤ inr_kind
 
 -- of the branches of case `t`, which bind variables of the types of `c` and `d`; the scrutinee has the uses `uses`
 pub record ReadyBranches (p types terms functions : List ℕ) (table : List (List ℕ)) (nodes heap vars : List ℕ) (sc : Scope)

@@ -7,8 +7,6 @@ pub mod Waiting
 pub mod Sizes
 -- what an outcome means
 pub mod Outcomes
--- what a term with one part asks on entering
-pub mod Wants
 -- what typing a term asks for, and what it ensures
 pub mod Ready
 -- the same by function

@@ -3,11 +3,10 @@
 ghost use Rattle.program.specs.Kinds.{let_kind, let_pair_kind, case_kind};
 ghost use Rattle.typing.specs.Asked.{ReadyAt, ReadyBranches, Infers, InfersBranches};
 
-use crate::namings::SCOPE_BYTES;
 use crate::outcomes::{Out, Scope, Status};
 use crate::{infer, namings, outcomes, tests, variables};
 use program::kinds;
-use rules::{MAX_FUNCTIONS, MAX_PARAMETERS, MAX_TYPES};
+use rules::{MAX_FUNCTIONS, MAX_PARAMETERS};
 use types::codes::Code;
 use varsets::Uses;
 
@@ -15,16 +14,16 @@ use varsets::Uses;
 const MOST_VARIABLES: u8 = rules::MAX_VARIABLES as u8;
 
 // let x = e in b
-#[cycle(arms_choose_let_one_let_two_arguments_call_infer_pair_unary)]
+#[cycle(arms_choose_let_one_let_two_arguments_call_infer_inject_pair_roll_unroll)]
 pub fn let_one(
     p: &[u8],
     types: &[u16],
     terms: &[u16],
     funs: &[u16],
     sigs: &[[u16; MAX_PARAMETERS]; MAX_FUNCTIONS],
-    nodes: &[u16; MAX_TYPES],
+    nodes: &[u16],
     ws: &mut [u8],
-    vars: &mut [u8; SCOPE_BYTES],
+    vars: &mut [u8],
     sc: Scope,
     top: u32,
     t: u16,
@@ -58,16 +57,16 @@ pub fn let_one(
 }
 
 // let (x, y) = e in b
-#[cycle(arms_choose_let_one_let_two_arguments_call_infer_pair_unary)]
+#[cycle(arms_choose_let_one_let_two_arguments_call_infer_inject_pair_roll_unroll)]
 pub fn let_two(
     p: &[u8],
     types: &[u16],
     terms: &[u16],
     funs: &[u16],
     sigs: &[[u16; MAX_PARAMETERS]; MAX_FUNCTIONS],
-    nodes: &[u16; MAX_TYPES],
+    nodes: &[u16],
     ws: &mut [u8],
-    vars: &mut [u8; SCOPE_BYTES],
+    vars: &mut [u8],
     sc: Scope,
     top: u32,
     t: u16,
@@ -109,16 +108,16 @@ pub fn let_two(
 }
 
 // case e of inl x ⇒ b, inr y ⇒ b'
-#[cycle(arms_choose_let_one_let_two_arguments_call_infer_pair_unary)]
+#[cycle(arms_choose_let_one_let_two_arguments_call_infer_inject_pair_roll_unroll)]
 pub fn choose(
     p: &[u8],
     types: &[u16],
     terms: &[u16],
     funs: &[u16],
     sigs: &[[u16; MAX_PARAMETERS]; MAX_FUNCTIONS],
-    nodes: &[u16; MAX_TYPES],
+    nodes: &[u16],
     ws: &mut [u8],
-    vars: &mut [u8; SCOPE_BYTES],
+    vars: &mut [u8],
     sc: Scope,
     top: u32,
     t: u16,
@@ -153,16 +152,16 @@ pub fn choose(
 }
 
 // The branches of case t, over the types that they bind; the scrutinee has the uses `uses`.
-#[cycle(arms_choose_let_one_let_two_arguments_call_infer_pair_unary)]
+#[cycle(arms_choose_let_one_let_two_arguments_call_infer_inject_pair_roll_unroll)]
 fn arms(
     p: &[u8],
     types: &[u16],
     terms: &[u16],
     funs: &[u16],
     sigs: &[[u16; MAX_PARAMETERS]; MAX_FUNCTIONS],
-    nodes: &[u16; MAX_TYPES],
+    nodes: &[u16],
     ws: &mut [u8],
-    vars: &mut [u8; SCOPE_BYTES],
+    vars: &mut [u8],
     sc: Scope,
     top: u32,
     t: u16,

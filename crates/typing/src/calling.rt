@@ -3,24 +3,23 @@
 ghost use Rattle.program.specs.Kinds.{call_kind};
 ghost use Rattle.typing.specs.Asked.{ReadyAt, ReadyArguments, Infers, InfersArguments};
 
-use crate::namings::SCOPE_BYTES;
 use crate::outcomes::{Out, Scope, Status};
 use crate::{infer, leaves, outcomes, tests};
-use rules::{MAX_FUNCTIONS, MAX_PARAMETERS, MAX_TYPES};
+use rules::{MAX_FUNCTIONS, MAX_PARAMETERS};
 use varsets::Uses;
 
 // The ancilla arguments of call t, of function g, from number k of `count` on. Their uses count for nothing: of a dynamic variable bound outside
 // they are namings.
-#[cycle(arms_choose_let_one_let_two_arguments_call_infer_pair_unary)]
+#[cycle(arms_choose_let_one_let_two_arguments_call_infer_inject_pair_roll_unroll)]
 fn arguments(
     p: &[u8],
     types: &[u16],
     terms: &[u16],
     funs: &[u16],
     sigs: &[[u16; MAX_PARAMETERS]; MAX_FUNCTIONS],
-    nodes: &[u16; MAX_TYPES],
+    nodes: &[u16],
     ws: &mut [u8],
-    vars: &mut [u8; SCOPE_BYTES],
+    vars: &mut [u8],
     sc: Scope,
     top: u32,
     t: u16,
@@ -69,16 +68,16 @@ fn arguments(
 }
 
 // A call: ancilla arguments name no dynamic variable of the scope, but for what a let around could help; the dynamic argument may.
-#[cycle(arms_choose_let_one_let_two_arguments_call_infer_pair_unary)]
+#[cycle(arms_choose_let_one_let_two_arguments_call_infer_inject_pair_roll_unroll)]
 pub fn call(
     p: &[u8],
     types: &[u16],
     terms: &[u16],
     funs: &[u16],
     sigs: &[[u16; MAX_PARAMETERS]; MAX_FUNCTIONS],
-    nodes: &[u16; MAX_TYPES],
+    nodes: &[u16],
     ws: &mut [u8],
-    vars: &mut [u8; SCOPE_BYTES],
+    vars: &mut [u8],
     sc: Scope,
     top: u32,
     t: u16,

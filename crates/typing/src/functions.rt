@@ -14,7 +14,7 @@ ghost use Rattle.typing.specs.Checked.{verdict_of, Typeable, Signed, Bound, Star
 use crate::namings::SCOPE_BYTES;
 use crate::outcomes::{Fault, Scope, Status};
 use crate::{infer, namings, variables};
-use rules::{MAX_FUNCTIONS, MAX_PARAMETERS, MAX_TYPES};
+use rules::{MAX_FUNCTIONS, MAX_PARAMETERS};
 use types::codes::Code;
 use types::{codes, compare};
 use varsets::Uses;
@@ -33,7 +33,7 @@ fn bind_ancillae(
     p: &[u8],
     types: &[u16],
     ws: &[u8],
-    vars: &mut [u8; SCOPE_BYTES],
+    vars: &mut [u8],
     at: usize,
     row: [u16; MAX_PARAMETERS],
     q: u8,
@@ -65,7 +65,7 @@ fn bind_parameters(
     p: &[u8],
     types: &[u16],
     ws: &[u8],
-    vars: &mut [u8; SCOPE_BYTES],
+    vars: &mut [u8],
     at: usize,
     row: [u16; MAX_PARAMETERS],
 ) -> Scope
@@ -150,17 +150,16 @@ fn check_function(
     terms: &[u16],
     functions: &[u16],
     table: &[[u16; MAX_PARAMETERS]; MAX_FUNCTIONS],
-    nodes: &[u16; MAX_TYPES],
+    nodes: &[u16],
     ws: &mut [u8],
-    vars: &mut [u8; SCOPE_BYTES],
+    vars: &mut [u8],
     g: usize,
 ) -> Verdict
     requires typeable { Typeable p.now types.now terms.now functions.now nodes.now ws.old }
     requires figured { Figured (map (type_at p.now) types.now) ws.old (length types.now) }
     requires g_in_bounds { (g < length functions.now) × SignaturesAre p.now functions.now table.now × (scope_bytes ≤ length vars.old) }
     ensures { (verdict_of result ≡ function_answer p.now types.now terms.now functions.now g)
-        × Figured (map (type_at p.now) types.now) ws.new (length types.now)
-        × (scope_bytes ≤ length vars.new) }
+        × Figured (map (type_at p.now) types.now) ws.new (length types.now) }
 {
     let row = table[g];
     let at = octets::wide_index(functions[g]);
@@ -185,7 +184,7 @@ fn check_all(
     terms: &[u16],
     functions: &[u16],
     table: &[[u16; MAX_PARAMETERS]; MAX_FUNCTIONS],
-    nodes: &[u16; MAX_TYPES],
+    nodes: &[u16],
     ws: &mut [u8],
 ) -> Verdict
     requires typeable { Typeable p.now types.now terms.now functions.now nodes.now ws.old }
@@ -217,7 +216,7 @@ pub fn check_functions(
     terms: &[u16],
     functions: &[u16],
     table: &[[u16; MAX_PARAMETERS]; MAX_FUNCTIONS],
-    nodes: &[u16; MAX_TYPES],
+    nodes: &[u16],
     ws: &mut [u8],
 ) -> Verdict
     requires typeable { Typeable p.now types.now terms.now functions.now nodes.now ws.old }

@@ -7,7 +7,6 @@ pub mod namings; // namings.rt: namings that wait, in lent bytes
 pub mod variables; // variables.rt: the types of variables in lent bytes
 pub mod tests; // tests.rt: the tests after a part is typed
 pub mod leaves; // leaves.rt: where the field of an entry starts; the unit type
-pub mod wants; // wants.rt: the tests on entering a term with one part
 pub mod infer; // infer.rt: terms, in a cycle with binds and calling
 pub mod binds; // binds.rt: terms that bind variables
 pub mod calling; // calling.rt: calls

@@ -53,15 +53,15 @@ fn cell(j: u16) -> usize
 }
 
 // No naming waits: what stands behind the count is not looked at.
-pub fn begin(vars: &mut [u8; SCOPE_BYTES])
+pub fn begin(vars: &mut [u8])
     requires { scope_bytes ≤ length vars.old }
-    ensures { (count_in vars.new ≡ 0) × (length vars.new ≡ length vars.old) }
+    ensures { count_in vars.new ≡ 0 }
 {
     octets::write16(vars, COUNT_AT, 0);
 }
 
 // How many namings there are.
-pub fn count(vars: &[u8; SCOPE_BYTES]) -> u16
+pub fn count(vars: &[u8]) -> u16
     requires { scope_bytes ≤ length vars.now }
     ensures { result ≡ count_in vars.now }
 {
@@ -69,7 +69,7 @@ pub fn count(vars: &[u8; SCOPE_BYTES]) -> u16
 }
 
 // Variable i is named by term t.
-pub fn wait(vars: &mut [u8; SCOPE_BYTES], i: u8, t: u16)
+pub fn wait(vars: &mut [u8], i: u8, t: u16)
     requires { (scope_bytes ≤ length vars.old) × (count_in vars.old < max_terms) }
     ensures { Waits vars.old vars.new i t }
 {
@@ -115,7 +115,7 @@ fn waits_on(sc: Scope, variable: u16) -> bool
 }
 
 // Naming j after the body of a let, which stands in the scope and uses `uses`: it is helped, waits on, or is refused.
-fn settle_one(vars: &mut [u8; SCOPE_BYTES], sc: Scope, uses: Uses, j: u16, low: Lowest) -> Lowest
+fn settle_one(vars: &mut [u8], sc: Scope, uses: Uses, j: u16, low: Lowest) -> Lowest
     requires { Settleable sc vars.old j (j + 1) }
     ensures { Settles sc uses vars.old vars.new j (j + 1) low result }
 {
@@ -135,14 +135,7 @@ fn settle_one(vars: &mut [u8; SCOPE_BYTES], sc: Scope, uses: Uses, j: u16, low: 
 }
 
 // The namings from number `from` on and below `to`, which are those of the let's bound term.
-pub fn settle(
-    vars: &mut [u8; SCOPE_BYTES],
-    sc: Scope,
-    uses: Uses,
-    from: u16,
-    to: u16,
-    low: Lowest,
-) -> Lowest
+pub fn settle(vars: &mut [u8], sc: Scope, uses: Uses, from: u16, to: u16, low: Lowest) -> Lowest
     requires { Settleable sc vars.old from to }
     ensures { Settles sc uses vars.old vars.new from to low result }
 {

@@ -6,10 +6,9 @@ ghost use Rattle.types.specs.Counts.{Counted};
 ghost use Rattle.typing.specs.Ready.{PartKnown, After, AfterBody, Joins, Expects, spent_by, Closes, ClosesOne, ClosesTwo, Meets, Pairs};
 ghost use Rattle.typing.specs.Waiting.{Settleable};
 
-use crate::namings::{Lowest, SCOPE_BYTES};
+use crate::namings::Lowest;
 use crate::outcomes::{Found, Out, Scope, Status};
 use crate::{namings, outcomes};
-use rules::MAX_TYPES;
 use types::codes::Code;
 use varsets::Uses;
 
@@ -85,7 +84,7 @@ fn join(top: u32, f: Found, uses: Uses) -> Out
 // The body of a let in a scope, once it is typed; `used` is whether it uses what the let binds. The namings of the bound term, numbers `from`
 // to `to`, are settled; of all places for 8, the let's own among them, the lowest stands.
 fn close(
-    vars: &mut [u8; SCOPE_BYTES],
+    vars: &mut [u8],
     top: u32,
     f: Found,
     uses: Uses,
@@ -114,7 +113,7 @@ pub fn close_one(
     p: &[u8],
     types: &[u16],
     ws: &[u8],
-    vars: &mut [u8; SCOPE_BYTES],
+    vars: &mut [u8],
     out: Out,
     uses: Uses,
     sc: Scope,
@@ -145,7 +144,7 @@ pub fn close_two(
     p: &[u8],
     types: &[u16],
     ws: &[u8],
-    vars: &mut [u8; SCOPE_BYTES],
+    vars: &mut [u8],
     out: Out,
     uses: Uses,
     sc: Scope,
@@ -215,7 +214,7 @@ pub fn meet(
 pub fn pair_up(
     p: &[u8],
     types: &[u16],
-    nodes: &[u16; MAX_TYPES],
+    nodes: &[u16],
     ws: &mut [u8],
     out: Out,
     left: Found,

@@ -5,7 +5,6 @@ ghost use Rattle.types.specs.Codes.{Known};
 ghost use Rattle.typing.specs.Ready.{variable_at, Scoped, Reads, Seen, Widened, MarkedScope};
 ghost use Rattle.typing.specs.Waiting.{variable_bytes, scope_bytes, count_in};
 
-use crate::namings::SCOPE_BYTES;
 use crate::outcomes::{Found, Out, Scope, Status};
 use crate::{namings, outcomes};
 use types::codes::Code;
@@ -20,7 +19,7 @@ fn slot(i: u8) -> usize
     VARIABLE_BYTES * octets::wide_index(octets::wide16(i))
 }
 
-fn code_of(vars: &[u8; SCOPE_BYTES], i: u8) -> Code
+fn code_of(vars: &[u8], i: u8) -> Code
     requires { (i < max_variables) × (variable_bytes * max_variables ≤ length vars.now) }
     ensures { result ≡ variable_at vars.now i }
 {
@@ -28,7 +27,7 @@ fn code_of(vars: &[u8; SCOPE_BYTES], i: u8) -> Code
 }
 
 // A variable that may be named.
-fn named(vars: &[u8; SCOPE_BYTES], top: u32, i: u8) -> Out
+fn named(vars: &[u8], top: u32, i: u8) -> Out
     requires { (i < max_variables) × (variable_bytes * max_variables ≤ length vars.now) }
     ensures { Reads vars.now top i result }
 {
@@ -41,7 +40,7 @@ fn named(vars: &[u8; SCOPE_BYTES], top: u32, i: u8) -> Out
 }
 
 // Variable i as a term: its type, unless it is not in scope, or barred. A barred one whose naming a let could help waits.
-pub fn variable(vars: &mut [u8; SCOPE_BYTES], sc: Scope, top: u32, t: u16, i: u8) -> Out
+pub fn variable(vars: &mut [u8], sc: Scope, top: u32, t: u16, i: u8) -> Out
     requires { (sc.n ≤ max_variables) × (scope_bytes ≤ length vars.old) × (count_in vars.old < max_terms) }
     ensures { Seen vars.old vars.new sc top t i result }
 {
@@ -85,7 +84,7 @@ pub fn bind(
     p: &[u8],
     types: &[u16],
     ws: &[u8],
-    vars: &mut [u8; SCOPE_BYTES],
+    vars: &mut [u8],
     sc: Scope,
     top: u32,
     c: Code,

@@ -15,7 +15,7 @@ judge-loaded-requires-clause-signatures_are c =
 
 pub judge-loaded-requires-clause-entries_tested : goal.judge-loaded-requires-clause-entries_tested
 judge-loaded-requires-clause-entries_tested c =
-    (c.test_entries-t.ensures, c.test_entries-t.auto.nodes)
+    c.test_entries-t.ensures
 
 pub returns-clause-examined : goal.returns-clause-examined
 returns-clause-examined c =

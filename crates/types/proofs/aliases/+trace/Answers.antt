@@ -130,9 +130,7 @@ second-requires t c =
 pub trace-right-requires : goal.trace-right-requires
 trace-right-requires t c =
     let lower = second_falls c.requires.traceable c.requires.part_in_bounds.0 c.number_of-i.ensures c.wide_index.ensures.0
-    c.wide_index-at.ensures.0 c.kind-kind.ensures c.if-kind-eq-UNIT_TYPE.false c.if-kind-eq-TYPE_VARIABLE.false c.if-kind-eq-RECURSIVE.false
-    c.second.ensures in
-    let set = length-set c.args.met.now c.wide_index-3.result (c.args.j + 1) in (
+    c.wide_index-at.ensures.0 c.kind-kind.ensures c.if-kind-eq-UNIT_TYPE.false c.if-kind-eq-TYPE_VARIABLE.false c.if-kind-eq-RECURSIVE.false c.second.ensures in (
       omega (arith, c.decreases, lower.0),
       (
         still c.requires.traceable c.trace-left.ensures,
@@ -140,7 +138,7 @@ trace-right-requires t c =
           lower.1,
           c.requires.part_in_bounds.1,
           omega (arith, c.requires.part_in_bounds.2, lower.0),
-          omega (arith, c.trace-left.auto.met, set, c.requires.part_in_bounds.3),
+          omega (arith, c.trace-left.auto.met, length-set c.args.met.now c.wide_index-3.result (c.args.j + 1), c.requires.part_in_bounds.3),
         ),
       ),
     )

@@ -1,5 +1,5 @@
 use mathlib.Core.Path.{refl}
-use Rattle.types.proofs.Tracing.{find_asked, sources-then, codes_known, found_below, number-there, number-own, alias-figured}
+use Rattle.types.proofs.Tracing.{find_asked, sources-then, codes_known, found_below, number-there, alias-figured}
 use Rattle.types.proofs.aliases.keep.Goals as goal
 
 pub find-k-requires : goal.find-k-requires
@@ -18,7 +18,7 @@ same-requires-clause-known c =
 
 pub returns-then-same : goal.returns-then-same
 returns-then-same c =
-    let found = found_below c.find-k.ensures c.if-k-types.false in
-    alias-figured c.requires.traceable c.requires.i_in_bounds.0 c.requires.i_in_bounds.1 (number-there c.requires.traceable found refl c.number_of-alias.ensures)
-    c.under-part.ensures c.entry-whole.ensures (number-own c.requires.traceable found refl c.number_of-alias.ensures)
-    c.same.ensures c.if-same.true c.put.ensures
+    alias-figured c.requires.traceable c.requires.i_in_bounds.0 c.requires.i_in_bounds.1
+    (number-there c.requires.traceable (found_below c.find-k.ensures c.if-k-types.false) refl c.number_of-alias.ensures)
+    c.under-part.ensures c.entry-whole.ensures
+    c.same.ensures c.if-same.true c.put_alias.ensures

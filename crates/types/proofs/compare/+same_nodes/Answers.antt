@@ -1,6 +1,5 @@
 use Rattle.types.proofs.Trees.{decided, refuted}
-use Rattle.types.proofs.Alike.{one_code, other-numbers, parted, twice-parted, fewer-first, known-first, fewer-second}
-use Rattle.types.proofs.Alike.{known-second, other_kinds, units, variables, recursives, firsts_differ, seconds}
+use Rattle.types.proofs.Alike.{one_code, other-numbers, parted, twice-parted, fewer-first, known-first, fewer-second, known-second, other_kinds, units, variables, recursives, firsts_differ, seconds}
 use native.Mathlib.Omega.{arith}
 use mathlib.Core.Path.{sym, ◌∙◌}
 use Rattle.types.proofs.compare.+same_nodes.Goals as goal

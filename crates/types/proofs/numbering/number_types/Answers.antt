@@ -2,20 +2,11 @@ use native.Mathlib.Omega.{arith}
 use mathlib.Core.Path.{◌≡◌, refl, subst, ◌∙◌}
 use Rattle.types.specs.Numbering.{Numbered}
 use Rattle.types.proofs.Entering.{none_numbered}
-use Rattle.types.proofs.Recalling.{none_further}
 use Rattle.types.proofs.numbering.number_types.Goals as goal
 
-pub forget-requires : goal.forget-requires
-forget-requires c =
-    c.requires.readable.1
-
 pub loop-i-init : goal.loop-i-init
-loop-i-init c = (
-  omega arith,
-  (refl, refl, refl),
-  none_numbered (omega (arith, c.forget.auto, c.requires.readable.1)) c.requires.keys_len.0 c.requires.keys_len.1
-      (none_further c.args.ws.now c.requires.readable.1 c.forget.ensures),
-)
+loop-i-init c =
+    (omega arith, (refl, refl, refl), none_numbered c.requires.readable.1 c.requires.keys_len.0 c.requires.keys_len.1)
 
 pub enter-requires-clause-readable : goal.enter-requires-clause-readable
 enter-requires-clause-readable c =
@@ -42,7 +33,7 @@ loop-i-preserved c = (
 
 pub shape_of-ws : goal.shape_of-ws
 shape_of-ws c =
-    c.loop-i.invariant.1.0 ∙ c.forget.auto.ws
+    c.loop-i.invariant.1.0
 
 pub shape_of-keys : goal.shape_of-keys
 shape_of-keys c =

@@ -42,6 +42,10 @@ loop-i-preserved c = (
       c.entry-c.ensures c.loop-i.invariant.2,
 )
 
+pub shape_of-vars : goal.shape_of-vars
+shape_of-vars c =
+    c.loop-i.invariant.1
+
 pub returns : goal.returns
 returns c =
     subst (Bound _ _ _ _ _) (let z : c.loop-i.i ≡ c.args.q = omega arith in z) c.loop-i.invariant.2

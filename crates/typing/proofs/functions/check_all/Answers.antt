@@ -1,12 +1,16 @@
 use native.Mathlib.Omega.{arith}
 use mathlib.Core.Path.{refl, sym, ap, ◌∙◌}
 use Rattle.typing.specs.Checked.{verdict_of}
-use Rattle.typing.proofs.Turns.{from_first, from_last, no_more, function-typed, function-refused, typeable_kept}
+use Rattle.typing.proofs.Turns.{from_first, from_last, function-typed, function-refused, typeable_kept}
 use Rattle.typing.proofs.functions.check_all.Goals as goal
 
 pub loop-g-init : goal.loop-g-init
 loop-g-init c =
-    (omega arith, refl, no_more refl, c.requires.figured, from_first _ _ _ _)
+    (omega arith, refl, refl, c.requires.figured, from_first _ _ _ _)
+
+pub slice_bounds-check_function-end : goal.slice_bounds-check_function-end
+slice_bounds-check_function-end c =
+    sym c.loop-g.invariant.2
 
 pub check_function-v-requires-clause-typeable : goal.check_function-v-requires-clause-typeable
 check_function-v-requires-clause-typeable c =
@@ -18,7 +22,7 @@ check_function-v-requires-clause-figured c =
 
 pub check_function-v-requires-clause-g_in_bounds : goal.check_function-v-requires-clause-g_in_bounds
 check_function-v-requires-clause-g_in_bounds c =
-    (c.loop-g-test.true, c.requires.signatures_are, c.loop-g.invariant.2)
+    (c.loop-g-test.true, c.requires.signatures_are, omega (arith, c.loop-g.invariant.2))
 
 pub overflow_add-g : goal.overflow_add-g
 overflow_add-g c =
@@ -32,7 +36,7 @@ pub loop-g-preserved : goal.loop-g-preserved
 loop-g-preserved c = (
   omega arith,
   c.check_function-v.auto.ws ∙ c.loop-g.invariant.1,
-  c.check_function-v.ensures.2,
+  c.check_function-v.auto.vars ∙ c.loop-g.invariant.2,
   c.check_function-v.ensures.1,
   c.loop-g.invariant.4 ∙ function-typed _ _ _ _ _ c.loop-g-test.true
       (sym c.check_function-v.ensures.0 ∙ ap verdict_of c.in-Typed.is),

@@ -10,7 +10,7 @@ use Rattle.typing.proofs.Turns.{from_function}
 use Rattle.typing.proofs.functions.check_all.Given as goal
 
 abbrev pub invariant-loop-g : goal.invariant-loop-g
-invariant-loop-g l = (l.g ≤ length l.functions) × (length l.ws ≡ length l.initial.ws) × (scope_bytes ≤ length l.vars)
+invariant-loop-g l = (l.g ≤ length l.functions) × (length l.ws ≡ length l.initial.ws) × (length l.vars ≡ scope_bytes)
     × Figured (map (type_at l.p) l.types) l.ws (length l.types) × (typing_answer l.p l.types l.terms l.functions ≡ from_function l.p l.types l.terms l.functions l.g)
 
 abbrev pub decreases-loop-g : goal.decreases-loop-g

@@ -1,3 +1,4 @@
+use mathlib.Core.Path.{◌∙◌}
 use native.Mathlib.Omega.{arith}
 use Rattle.program.proofs.Rooms.{function-room}
 use Rattle.program.proofs.Rows.{function-fields}
@@ -27,7 +28,7 @@ bind_parameters-sc-requires-clause-signed c =
 
 pub bind_parameters-sc-requires-clause-scope_bytes_in_bounds : goal.bind_parameters-sc-requires-clause-scope_bytes_in_bounds
 bind_parameters-sc-requires-clause-scope_bytes_in_bounds c =
-    (omega (arith, c.requires.g_in_bounds.2, c.begin.ensures.1), c.begin.ensures.0)
+    (omega (arith, c.requires.g_in_bounds.2, c.begin.auto.vars), c.begin.ensures)
 
 pub infer-out-requires : goal.infer-out-requires
 infer-out-requires c =
@@ -46,12 +47,15 @@ pub finish-requires-clause-signed : goal.finish-requires-clause-signed
 finish-requires-clause-signed c =
     signed c.requires.typeable c.requires.g_in_bounds.0 c.wide_index-at.ensures.0 (c.requires.g_in_bounds.1.rows _ c.requires.g_in_bounds.0)
 
+pub shape_of-vars-in-Typed : goal.shape_of-vars-in-Typed
+shape_of-vars-in-Typed c =
+    c.infer-out.auto.vars ∙ c.bind_parameters-sc.auto.vars ∙ c.begin.auto.vars
+
 pub returns-in-Typed : goal.returns-in-Typed
 returns-in-Typed c = (
   typed-answer c.requires.typeable c.requires.g_in_bounds.0 c.wide_index-at.ensures.0 c.bind_parameters-sc.ensures c.function_body-body.ensures
       c.infer-out.ensures c.in-Typed.is c.finish.ensures,
   c.infer-out.ensures.kept.sources.figures,
-  omega (arith, c.bind_parameters-sc.ensures.scoped.slots, c.infer-out.ensures.kept.lengths),
 )
 
 pub returns-in-Refused : goal.returns-in-Refused
@@ -59,5 +63,4 @@ returns-in-Refused c = (
   refused-answer c.requires.typeable c.requires.g_in_bounds.0 c.wide_index-at.ensures.0 c.bind_parameters-sc.ensures c.function_body-body.ensures
       c.infer-out.ensures c.in-Refused.is c.refusal.ensures,
   c.infer-out.ensures.kept.sources.figures,
-  omega (arith, c.bind_parameters-sc.ensures.scoped.slots, c.infer-out.ensures.kept.lengths),
 )

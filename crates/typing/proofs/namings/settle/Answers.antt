@@ -28,6 +28,10 @@ loop-j-preserved c = (
   settles-then c.loop-j.invariant.0 c.loop-j.invariant.3 c.settle_one-lowest.ensures,
 )
 
+pub shape_of-vars : goal.shape_of-vars
+shape_of-vars c =
+    c.loop-j.invariant.2
+
 pub returns : goal.returns
 returns c =
     settles_to (let z : c.loop-j.j ≡ c.args.to = omega (arith, c.loop-j.invariant.1) in z) c.loop-j.invariant.3

@@ -1,19 +1,19 @@
 use Prim.Native.Nat.{◌-◌}
 use Rattle.typing.proofs as own
 use native.Mathlib.Omega.{arith}
-use mathlib.Core.Path.{◌∙◌, ap, refl, sym}
+use mathlib.Core.Path.{◌∙◌, ap, sym}
 use own.Passing.{args_end, args-left, args_read, args-ready, args-part, args-refused, args_later, args-next, args_want, args_differ, args_done, args_row, args_parameter, call-function, call_differ, call-calls, call-few, call-read, call-barred, call-refused, call-ready, call-part, call_want, call_done, call-row, call_parameter, call-parts}
-use own.Asking.{ready_for, ready-arguments, ready_branches, one-waits, ready_at, ready-unary}
+use own.Asking.{ready_for, ready-arguments, ready_branches, one-waits, ready_at, ready_inject}
 use own.Answers.{told, ready-opened, known_later}
-use own.Trees.{read_case, read-call, here, kind-there, kind-known, read-var, read_let, read_letp, read-pair}
+use own.Trees.{read_case, read-call, here, here_inl, here_inr, from_five, kind-there, read-var, no_twelfth, read_inject, read_let, read_letp, read-pair, read-roll, read_unroll}
 use own.Branching.{left-part, right-part, left-ready, left-refused, left-known, right_later, right-known, left-unused, meet_left, meet-bound, branches_done, case_full, case_free, case_ready, case_part, case_refused, case_later, case_named, case_no, case_done}
-use own.Steps.{demand_done, var_done, unit_done}
+use own.Steps.{demand_done, var_done, unit_done, inject_ready, inject_part, inject_whole, inject_no, inject_left, inject_right, roll-ready, roll-part, roll_type, roll_whole, roll-no, roll-known, roll_done, unroll_ready, unroll_part, unroll_type, unroll_whole, unroll_no, unroll_known, unroll_large, unroll_done}
 use own.Called.{read-function, some_parameters}
-use own.UnaryKinds.{the_rest}
 use own.Binding.{let_full, let_free, let_ready, let_bound, let_body, let_refused, let_later, let_known, let_can_settle, let_done, letp_full, letp_ready, letp_bound, letp_body, letp_refused, letp_later, letp_no, letp_second, letp_first_known, letp_second_known, letp_can_settle, letp_done}
 use own.Pairing.{pair-ready, pair_left, pair-right, pair-refused, pair_later, pair_up_left, pair-room, pair_done}
-use own.Unary.{unary-field, unary-part, unary-ready, unary-no, unary_done}
-use Rattle.typing.proofs.+arms_choose_let_one_let_two_arguments_call_infer_pair_unary.Goals as goal
+use Rattle.typing.proofs.+arms_choose_let_one_let_two_arguments_call_infer_inject_pair_roll_unroll.Goals as goal
+
+-- The functions of typing meet their contracts: the answers of Proof/, put together.
 
 pub calling::arguments-returns-then-k-count : goal.calling::arguments-returns-then-k-count
 calling::arguments-returns-then-k-count t c =
@@ -82,6 +82,10 @@ pub calling::arguments-shape_of-ws-then-same : goal.calling::arguments-shape_of-
 calling::arguments-shape_of-ws-then-same t c =
     c.arguments.auto.ws ∙ c.infer-r.auto.ws
 
+pub calling::arguments-shape_of-vars-then-same : goal.calling::arguments-shape_of-vars-then-same
+calling::arguments-shape_of-vars-then-same t c =
+    c.arguments.auto.vars ∙ c.infer-r.auto.vars
+
 pub calling::arguments-returns-then-same : goal.calling::arguments-returns-then-same
 calling::arguments-returns-then-same t c =
     let parameter = args_parameter c.requires.ready c.requires.calls c.if-k-count.false c.requires.signed in
@@ -93,6 +97,10 @@ pub calling::arguments-shape_of-ws-else-same : goal.calling::arguments-shape_of-
 calling::arguments-shape_of-ws-else-same t c =
     c.infer-r.auto.ws
 
+pub calling::arguments-shape_of-vars-else-same : goal.calling::arguments-shape_of-vars-else-same
+calling::arguments-shape_of-vars-else-same t c =
+    c.infer-r.auto.vars
+
 pub calling::arguments-returns-else-same : goal.calling::arguments-returns-else-same
 calling::arguments-returns-else-same t c =
     let parameter = args_parameter c.requires.ready c.requires.calls c.if-k-count.false c.requires.signed in
@@ -103,6 +111,10 @@ calling::arguments-returns-else-same t c =
 pub calling::arguments-shape_of-ws-in-Refused : goal.calling::arguments-shape_of-ws-in-Refused
 calling::arguments-shape_of-ws-in-Refused t c =
     c.infer-r.auto.ws
+
+pub calling::arguments-shape_of-vars-in-Refused : goal.calling::arguments-shape_of-vars-in-Refused
+calling::arguments-shape_of-vars-in-Refused t c =
+    c.infer-r.auto.vars
 
 pub calling::arguments-returns-in-Refused : goal.calling::arguments-returns-in-Refused
 calling::arguments-returns-in-Refused t c =
@@ -184,6 +196,11 @@ pub binds::arms-shape_of-ws-then-spent : goal.binds::arms-shape_of-ws-then-spent
 binds::arms-shape_of-ws-then-spent t c =
     c.infer-r2.auto.ws ∙ c.infer-r.auto.ws
 
+pub binds::arms-shape_of-vars-then-spent : goal.binds::arms-shape_of-vars-then-spent
+binds::arms-shape_of-vars-then-spent t c =
+    c.infer-r2.auto.vars ∙ c.bind-two.auto.vars ∙ c.infer-r.auto.vars ∙
+    c.bind-one.auto.vars
+
 pub binds::arms-returns-then-spent : goal.binds::arms-returns-then-spent
 binds::arms-returns-then-spent t c =
     branches_done c.requires c.second-left.ensures c.third-right.ensures c.bind-one.ensures c.infer-r.ensures
@@ -194,6 +211,10 @@ pub binds::arms-shape_of-ws-else-spent : goal.binds::arms-shape_of-ws-else-spent
 binds::arms-shape_of-ws-else-spent t c =
     c.infer-r.auto.ws
 
+pub binds::arms-shape_of-vars-else-spent : goal.binds::arms-shape_of-vars-else-spent
+binds::arms-shape_of-vars-else-spent t c =
+    c.infer-r.auto.vars ∙ c.bind-one.auto.vars
+
 pub binds::arms-returns-else-spent : goal.binds::arms-returns-else-spent
 binds::arms-returns-else-spent t c =
     left-unused c.requires c.second-left.ensures c.third-right.ensures c.bind-one.ensures c.infer-r.ensures
@@ -202,6 +223,10 @@ binds::arms-returns-else-spent t c =
 pub binds::arms-shape_of-ws-in-Refused : goal.binds::arms-shape_of-ws-in-Refused
 binds::arms-shape_of-ws-in-Refused t c =
     c.infer-r.auto.ws
+
+pub binds::arms-shape_of-vars-in-Refused : goal.binds::arms-shape_of-vars-in-Refused
+binds::arms-shape_of-vars-in-Refused t c =
+    c.infer-r.auto.vars ∙ c.bind-one.auto.vars
 
 pub binds::arms-returns-in-Refused : goal.binds::arms-returns-in-Refused
 binds::arms-returns-in-Refused t c =
@@ -351,6 +376,10 @@ pub calling::call-shape_of-ws-in-Typed : goal.calling::call-shape_of-ws-in-Typed
 calling::call-shape_of-ws-in-Typed t c =
     c.infer-r2.auto.ws ∙ c.arguments-r.auto.ws
 
+pub calling::call-shape_of-vars-in-Typed : goal.calling::call-shape_of-vars-in-Typed
+calling::call-shape_of-vars-in-Typed t c =
+    c.infer-r2.auto.vars ∙ c.arguments-r.auto.vars
+
 pub calling::call-returns-in-Typed : goal.calling::call-returns-in-Typed
 calling::call-returns-in-Typed t c =
     let callee = c.wide_index-g.ensures.0 ∙ c.first.ensures in
@@ -369,6 +398,10 @@ calling::call-returns-in-Typed t c =
 pub calling::call-shape_of-ws-in-Refused : goal.calling::call-shape_of-ws-in-Refused
 calling::call-shape_of-ws-in-Refused t c =
     c.arguments-r.auto.ws
+
+pub calling::call-shape_of-vars-in-Refused : goal.calling::call-shape_of-vars-in-Refused
+calling::call-shape_of-vars-in-Refused t c =
+    c.arguments-r.auto.vars
 
 pub calling::call-returns-in-Refused : goal.calling::call-returns-in-Refused
 calling::call-returns-in-Refused t c =
@@ -406,6 +439,10 @@ pub binds::choose-shape_of-ws-then-form-ne-SUM : goal.binds::choose-shape_of-ws-
 binds::choose-shape_of-ws-then-form-ne-SUM t c =
     c.infer-r.auto.ws
 
+pub binds::choose-shape_of-vars-then-form-ne-SUM : goal.binds::choose-shape_of-vars-then-form-ne-SUM
+binds::choose-shape_of-vars-then-form-ne-SUM t c =
+    c.infer-r.auto.vars
+
 pub binds::choose-returns-then-form-ne-SUM : goal.binds::choose-returns-then-form-ne-SUM
 binds::choose-returns-then-form-ne-SUM t c =
     case_no c.requires.ready c.requires.here c.if-n-eq-MOST_VARIABLES.false c.first-sum.ensures c.infer-r.ensures
@@ -426,6 +463,10 @@ pub binds::choose-shape_of-ws-else-form-ne-SUM : goal.binds::choose-shape_of-ws-
 binds::choose-shape_of-ws-else-form-ne-SUM t c =
     c.arms.auto.ws ∙ c.infer-r.auto.ws
 
+pub binds::choose-shape_of-vars-else-form-ne-SUM : goal.binds::choose-shape_of-vars-else-form-ne-SUM
+binds::choose-shape_of-vars-else-form-ne-SUM t c =
+    c.arms.auto.vars ∙ c.infer-r.auto.vars
+
 pub binds::choose-returns-else-form-ne-SUM : goal.binds::choose-returns-else-form-ne-SUM
 binds::choose-returns-else-form-ne-SUM t c =
     case_done c.requires.ready c.requires.here c.if-n-eq-MOST_VARIABLES.false c.first-sum.ensures c.infer-r.ensures
@@ -434,6 +475,10 @@ binds::choose-returns-else-form-ne-SUM t c =
 pub binds::choose-shape_of-ws-in-Refused : goal.binds::choose-shape_of-ws-in-Refused
 binds::choose-shape_of-ws-in-Refused t c =
     c.infer-r.auto.ws
+
+pub binds::choose-shape_of-vars-in-Refused : goal.binds::choose-shape_of-vars-in-Refused
+binds::choose-shape_of-vars-in-Refused t c =
+    c.infer-r.auto.vars
 
 pub binds::choose-returns-in-Refused : goal.binds::choose-returns-in-Refused
 binds::choose-returns-in-Refused t c =
@@ -458,6 +503,20 @@ infer::infer-variable-requires-in-0 t c = (
   c.requires.ready.scoped.few,
   c.requires.ready.scoped.slots,
   one-waits c.requires,
+)
+
+pub infer::infer-inject-requires : goal.infer::infer-inject-requires
+infer::infer-inject-requires t c = (
+  omega (arith, c.decreases),
+  ready_inject c.requires (here_inl (here c.requires.there c.offset-at.ensures
+      c.kind-kind.ensures c.in-2.is)),
+)
+
+pub infer::infer-inject-requires-in-3 : goal.infer::infer-inject-requires-in-3
+infer::infer-inject-requires-in-3 t c = (
+  omega (arith, c.decreases),
+  ready_inject c.requires (here_inr (here c.requires.there c.offset-at.ensures
+      c.kind-kind.ensures c.in-3.is)),
 )
 
 pub infer::infer-pair-requires : goal.infer::infer-pair-requires
@@ -495,13 +554,18 @@ infer::infer-call-requires t c = (
       c.in-8.is),
 )
 
-pub infer::infer-unary-requires : goal.infer::infer-unary-requires
-infer::infer-unary-requires t c = (
+pub infer::infer-roll-requires : goal.infer::infer-roll-requires
+infer::infer-roll-requires t c = (
   omega (arith, c.decreases),
-  ready-unary c.requires (here c.requires.there c.offset-at.ensures c.kind-kind.ensures refl)
-      (the_rest (kind-known c.requires.ready.entries c.requires.there c.offset-at.ensures c.kind-kind.ensures)
-      c.in_default.in_default-own.rest.0.0.0.0.0.0.1 c.in_default.in_default-own.rest.0.0.0.0.0.1 c.in_default.in_default-own.rest.0.0.0.0.1 c.in_default.in_default-own.rest.0.0.0.1 c.in_default.in_default-own.rest.0.0.1
-      c.in_default.in_default-own.rest.0.1 c.in_default.in_default-own.rest.1),
+  ready_at c.requires (here c.requires.there c.offset-at.ensures c.kind-kind.ensures
+      c.in-9.is),
+)
+
+pub infer::infer-unroll-requires : goal.infer::infer-unroll-requires
+infer::infer-unroll-requires t c = (
+  omega (arith, c.decreases),
+  ready_at c.requires (here c.requires.there c.offset-at.ensures c.kind-kind.ensures
+      c.in-10.is),
 )
 
 pub infer::infer-returns-in-0 : goal.infer::infer-returns-in-0
@@ -514,9 +578,37 @@ infer::infer-returns-in-1 t c =
     unit_done c.requires.ready (here c.requires.there c.offset-at.ensures c.kind-kind.ensures c.in-1.is)
     c.unit.ensures
 
+pub infer::infer-shape_of-ws-in-2 : goal.infer::infer-shape_of-ws-in-2
+infer::infer-shape_of-ws-in-2 t c =
+    c.inject.auto.ws
+
+pub infer::infer-shape_of-vars-in-2 : goal.infer::infer-shape_of-vars-in-2
+infer::infer-shape_of-vars-in-2 t c =
+    c.inject.auto.vars
+
+pub infer::infer-returns-in-2 : goal.infer::infer-returns-in-2
+infer::infer-returns-in-2 t c =
+    c.inject.ensures
+
+pub infer::infer-shape_of-ws-in-3 : goal.infer::infer-shape_of-ws-in-3
+infer::infer-shape_of-ws-in-3 t c =
+    c.inject-in-3.auto.ws
+
+pub infer::infer-shape_of-vars-in-3 : goal.infer::infer-shape_of-vars-in-3
+infer::infer-shape_of-vars-in-3 t c =
+    c.inject-in-3.auto.vars
+
+pub infer::infer-returns-in-3 : goal.infer::infer-returns-in-3
+infer::infer-returns-in-3 t c =
+    c.inject-in-3.ensures
+
 pub infer::infer-shape_of-ws-in-4 : goal.infer::infer-shape_of-ws-in-4
 infer::infer-shape_of-ws-in-4 t c =
     c.pair.auto.ws
+
+pub infer::infer-shape_of-vars-in-4 : goal.infer::infer-shape_of-vars-in-4
+infer::infer-shape_of-vars-in-4 t c =
+    c.pair.auto.vars
 
 pub infer::infer-returns-in-4 : goal.infer::infer-returns-in-4
 infer::infer-returns-in-4 t c =
@@ -526,6 +618,10 @@ pub infer::infer-shape_of-ws-in-5 : goal.infer::infer-shape_of-ws-in-5
 infer::infer-shape_of-ws-in-5 t c =
     c.let_one.auto.ws
 
+pub infer::infer-shape_of-vars-in-5 : goal.infer::infer-shape_of-vars-in-5
+infer::infer-shape_of-vars-in-5 t c =
+    c.let_one.auto.vars
+
 pub infer::infer-returns-in-5 : goal.infer::infer-returns-in-5
 infer::infer-returns-in-5 t c =
     c.let_one.ensures
@@ -533,6 +629,10 @@ infer::infer-returns-in-5 t c =
 pub infer::infer-shape_of-ws-in-6 : goal.infer::infer-shape_of-ws-in-6
 infer::infer-shape_of-ws-in-6 t c =
     c.let_two.auto.ws
+
+pub infer::infer-shape_of-vars-in-6 : goal.infer::infer-shape_of-vars-in-6
+infer::infer-shape_of-vars-in-6 t c =
+    c.let_two.auto.vars
 
 pub infer::infer-returns-in-6 : goal.infer::infer-returns-in-6
 infer::infer-returns-in-6 t c =
@@ -542,6 +642,10 @@ pub infer::infer-shape_of-ws-in-7 : goal.infer::infer-shape_of-ws-in-7
 infer::infer-shape_of-ws-in-7 t c =
     c.choose.auto.ws
 
+pub infer::infer-shape_of-vars-in-7 : goal.infer::infer-shape_of-vars-in-7
+infer::infer-shape_of-vars-in-7 t c =
+    c.choose.auto.vars
+
 pub infer::infer-returns-in-7 : goal.infer::infer-returns-in-7
 infer::infer-returns-in-7 t c =
     c.choose.ensures
@@ -550,17 +654,142 @@ pub infer::infer-shape_of-ws-in-8 : goal.infer::infer-shape_of-ws-in-8
 infer::infer-shape_of-ws-in-8 t c =
     c.call.auto.ws
 
+pub infer::infer-shape_of-vars-in-8 : goal.infer::infer-shape_of-vars-in-8
+infer::infer-shape_of-vars-in-8 t c =
+    c.call.auto.vars
+
 pub infer::infer-returns-in-8 : goal.infer::infer-returns-in-8
 infer::infer-returns-in-8 t c =
     c.call.ensures
 
-pub infer::infer-shape_of-ws-in_default : goal.infer::infer-shape_of-ws-in_default
-infer::infer-shape_of-ws-in_default t c =
-    c.unary.auto.ws
+pub infer::infer-shape_of-ws-in-9 : goal.infer::infer-shape_of-ws-in-9
+infer::infer-shape_of-ws-in-9 t c =
+    c.roll.auto.ws
+
+pub infer::infer-shape_of-vars-in-9 : goal.infer::infer-shape_of-vars-in-9
+infer::infer-shape_of-vars-in-9 t c =
+    c.roll.auto.vars
+
+pub infer::infer-returns-in-9 : goal.infer::infer-returns-in-9
+infer::infer-returns-in-9 t c =
+    c.roll.ensures
+
+pub infer::infer-shape_of-ws-in-10 : goal.infer::infer-shape_of-ws-in-10
+infer::infer-shape_of-ws-in-10 t c =
+    c.unroll.auto.ws
+
+pub infer::infer-shape_of-vars-in-10 : goal.infer::infer-shape_of-vars-in-10
+infer::infer-shape_of-vars-in-10 t c =
+    c.unroll.auto.vars
+
+pub infer::infer-returns-in-10 : goal.infer::infer-returns-in-10
+infer::infer-returns-in-10 t c =
+    c.unroll.ensures
 
 pub infer::infer-returns-in_default : goal.infer::infer-returns-in_default
 infer::infer-returns-in_default t c =
-    c.unary.ensures
+    let five = from_five c.in_default.in_default-own.rest.0.0.0.0.0.0.0.0.0.0.1 c.in_default.in_default-own.rest.0.0.0.0.0.0.0.0.0.1 c.in_default.in_default-own.rest.0.0.0.0.0.0.0.0.1
+    c.in_default.in_default-own.rest.0.0.0.0.0.0.0.1 c.in_default.in_default-own.rest.0.0.0.0.0.0.1 in
+    absurd (no_twelfth five c.in_default.in_default-own.rest.0.0.0.0.0.1 c.in_default.in_default-own.rest.0.0.0.0.1 c.in_default.in_default-own.rest.0.0.0.1 c.in_default.in_default-own.rest.0.0.1 c.in_default.in_default-own.rest.0.1 c.in_default.in_default-own.rest.1
+    c.kind-kind.ensures (kind-there c.requires.ready.entries c.requires.there c.offset-at.ensures).1)
+
+pub infer::inject-first-i-requires : goal.infer::inject-first-i-requires
+infer::inject-first-i-requires t c =
+    omega (arith, read_inject c.requires.ready.entries _ c.requires.here c.requires.least c.requires.most)
+
+pub infer::inject-second-part-requires : goal.infer::inject-second-part-requires
+infer::inject-second-part-requires t c =
+    read_inject c.requires.ready.entries _ c.requires.here c.requires.least c.requires.most
+
+pub infer::inject-shape_of-s-requires-clause-sources : goal.infer::inject-shape_of-s-requires-clause-sources
+infer::inject-shape_of-s-requires-clause-sources t c =
+    c.requires.ready.scoped.sources
+
+pub infer::inject-shape_of-s-requires-clause-known : goal.infer::inject-shape_of-s-requires-clause-known
+infer::inject-shape_of-s-requires-clause-known t c =
+    inject_whole c.requires.ready c.requires.here c.requires.least c.requires.most
+    c.first-i.ensures c.second-part.ensures c.entry-whole.ensures
+
+pub infer::inject-returns-then-form-ne-SUM : goal.infer::inject-returns-then-form-ne-SUM
+infer::inject-returns-then-form-ne-SUM t c =
+    inject_no c.requires.ready c.requires.here c.requires.least c.requires.most c.first-i.ensures
+    c.second-part.ensures c.entry-whole.ensures c.shape_of-s.ensures c.if-form-ne-SUM.true c.differ.ensures.0
+    c.differ.ensures.1
+
+pub infer::inject-infer-r-requires : goal.infer::inject-infer-r-requires
+infer::inject-infer-r-requires t c =
+    let ready = inject_ready c.requires.ready c.requires.here c.requires.least c.requires.most c.first-i.ensures
+    c.second-part.ensures c.entry-whole.ensures in
+    let part = inject_part c.requires.ready c.requires.here c.requires.least c.requires.most c.first-i.ensures
+    c.second-part.ensures c.entry-whole.ensures in
+    (omega (arith, c.decreases, part.0), ready_for c.requires.signed ready part.1)
+
+pub infer::inject-kind-kind-requires : goal.infer::inject-kind-kind-requires
+infer::inject-kind-kind-requires t c =
+    omega (arith, read_inject c.requires.ready.entries _ c.requires.here c.requires.least c.requires.most)
+
+pub infer::inject-expect-requires-clause-part_known : goal.infer::inject-expect-requires-clause-part_known
+infer::inject-expect-requires-clause-part_known t c =
+    let ready = inject_ready c.requires.ready c.requires.here c.requires.least c.requires.most c.first-i.ensures
+    c.second-part.ensures c.entry-whole.ensures in
+    told c.infer-r.ensures
+
+pub infer::inject-expect-requires-clause-known : goal.infer::inject-expect-requires-clause-known
+infer::inject-expect-requires-clause-known t c =
+    let ready = inject_ready c.requires.ready c.requires.here c.requires.least c.requires.most c.first-i.ensures
+    c.second-part.ensures c.entry-whole.ensures in
+    known_later ready.scoped.sources c.infer-r.ensures.kept c.shape_of-s.ensures.first
+
+pub infer::inject-shape_of-ws-then-kind-eq-INL : goal.infer::inject-shape_of-ws-then-kind-eq-INL
+infer::inject-shape_of-ws-then-kind-eq-INL t c =
+    c.infer-r.auto.ws
+
+pub infer::inject-shape_of-vars-then-kind-eq-INL : goal.infer::inject-shape_of-vars-then-kind-eq-INL
+infer::inject-shape_of-vars-then-kind-eq-INL t c =
+    c.infer-r.auto.vars
+
+pub infer::inject-returns-then-kind-eq-INL : goal.infer::inject-returns-then-kind-eq-INL
+infer::inject-returns-then-kind-eq-INL t c =
+    let ready = inject_ready c.requires.ready c.requires.here c.requires.least c.requires.most c.first-i.ensures
+    c.second-part.ensures c.entry-whole.ensures in
+    let whole = inject_whole c.requires.ready c.requires.here c.requires.least c.requires.most c.first-i.ensures
+    c.second-part.ensures c.entry-whole.ensures in
+    inject_left c.requires.ready c.requires.here c.requires.least c.requires.most c.first-i.ensures
+    c.second-part.ensures c.entry-whole.ensures c.shape_of-s.ensures c.if-form-ne-SUM.false
+    (sym c.kind-kind.ensures ∙ c.if-kind-eq-INL.true) (demand_done c.infer-r.ensures ready.scoped.sources
+    c.shape_of-s.ensures.first whole c.expect.ensures)
+
+pub infer::inject-expect-requires-2-clause-part_known : goal.infer::inject-expect-requires-2-clause-part_known
+infer::inject-expect-requires-2-clause-part_known t c =
+    let ready = inject_ready c.requires.ready c.requires.here c.requires.least c.requires.most c.first-i.ensures
+    c.second-part.ensures c.entry-whole.ensures in
+    told c.infer-r.ensures
+
+pub infer::inject-expect-requires-2-clause-known : goal.infer::inject-expect-requires-2-clause-known
+infer::inject-expect-requires-2-clause-known t c =
+    let ready = inject_ready c.requires.ready c.requires.here c.requires.least c.requires.most c.first-i.ensures
+    c.second-part.ensures c.entry-whole.ensures in
+    known_later ready.scoped.sources c.infer-r.ensures.kept
+    c.shape_of-s.ensures.second
+
+pub infer::inject-shape_of-ws : goal.infer::inject-shape_of-ws
+infer::inject-shape_of-ws t c =
+    c.infer-r.auto.ws
+
+pub infer::inject-shape_of-vars : goal.infer::inject-shape_of-vars
+infer::inject-shape_of-vars t c =
+    c.infer-r.auto.vars
+
+pub infer::inject-returns : goal.infer::inject-returns
+infer::inject-returns t c =
+    let ready = inject_ready c.requires.ready c.requires.here c.requires.least c.requires.most c.first-i.ensures
+    c.second-part.ensures c.entry-whole.ensures in
+    let whole = inject_whole c.requires.ready c.requires.here c.requires.least c.requires.most c.first-i.ensures
+    c.second-part.ensures c.entry-whole.ensures in
+    inject_right c.requires.ready c.requires.here c.requires.least c.requires.most c.first-i.ensures
+    c.second-part.ensures c.entry-whole.ensures c.shape_of-s.ensures c.if-form-ne-SUM.false
+    (λ q. c.if-kind-eq-INL.false (c.kind-kind.ensures ∙ q)) (demand_done c.infer-r.ensures ready.scoped.sources
+    c.shape_of-s.ensures.second whole c.expect-2.ensures)
 
 pub binds::let_one-returns-then-sc-eq-MOST_VARIABLES : goal.binds::let_one-returns-then-sc-eq-MOST_VARIABLES
 binds::let_one-returns-then-sc-eq-MOST_VARIABLES t c =
@@ -642,6 +871,11 @@ pub binds::let_one-shape_of-ws-in-Typed : goal.binds::let_one-shape_of-ws-in-Typ
 binds::let_one-shape_of-ws-in-Typed t c =
     c.infer-r2.auto.ws ∙ c.infer-r.auto.ws
 
+pub binds::let_one-shape_of-vars-in-Typed : goal.binds::let_one-shape_of-vars-in-Typed
+binds::let_one-shape_of-vars-in-Typed t c =
+    c.close_one.auto.vars ∙ c.infer-r2.auto.vars ∙ c.bind-inner.auto.vars
+    ∙ c.infer-r.auto.vars
+
 pub binds::let_one-returns-in-Typed : goal.binds::let_one-returns-in-Typed
 binds::let_one-returns-in-Typed t c =
     let_done c.requires.ready c.requires.here c.if-sc-eq-MOST_VARIABLES.false c.first-bound.ensures c.second-body.ensures
@@ -651,6 +885,10 @@ binds::let_one-returns-in-Typed t c =
 pub binds::let_one-shape_of-ws-in-Refused : goal.binds::let_one-shape_of-ws-in-Refused
 binds::let_one-shape_of-ws-in-Refused t c =
     c.infer-r.auto.ws
+
+pub binds::let_one-shape_of-vars-in-Refused : goal.binds::let_one-shape_of-vars-in-Refused
+binds::let_one-shape_of-vars-in-Refused t c =
+    c.infer-r.auto.vars
 
 pub binds::let_one-returns-in-Refused : goal.binds::let_one-returns-in-Refused
 binds::let_one-returns-in-Refused t c =
@@ -701,6 +939,10 @@ binds::let_two-shape_of-s-requires-in-Typed-clause-known t c =
 pub binds::let_two-shape_of-ws-then-form-ne-PRODUCT : goal.binds::let_two-shape_of-ws-then-form-ne-PRODUCT
 binds::let_two-shape_of-ws-then-form-ne-PRODUCT t c =
     c.infer-r.auto.ws
+
+pub binds::let_two-shape_of-vars-then-form-ne-PRODUCT : goal.binds::let_two-shape_of-vars-then-form-ne-PRODUCT
+binds::let_two-shape_of-vars-then-form-ne-PRODUCT t c =
+    c.infer-r.auto.vars
 
 pub binds::let_two-returns-then-form-ne-PRODUCT : goal.binds::let_two-returns-then-form-ne-PRODUCT
 binds::let_two-returns-then-form-ne-PRODUCT t c =
@@ -770,6 +1012,11 @@ pub binds::let_two-shape_of-ws-else-form-ne-PRODUCT : goal.binds::let_two-shape_
 binds::let_two-shape_of-ws-else-form-ne-PRODUCT t c =
     c.infer-r2.auto.ws ∙ c.infer-r.auto.ws
 
+pub binds::let_two-shape_of-vars-else-form-ne-PRODUCT : goal.binds::let_two-shape_of-vars-else-form-ne-PRODUCT
+binds::let_two-shape_of-vars-else-form-ne-PRODUCT t c =
+    c.close_two.auto.vars ∙ c.infer-r2.auto.vars ∙ c.bind-two.auto.vars
+    ∙ c.bind-one.auto.vars ∙ c.infer-r.auto.vars
+
 pub binds::let_two-returns-else-form-ne-PRODUCT : goal.binds::let_two-returns-else-form-ne-PRODUCT
 binds::let_two-returns-else-form-ne-PRODUCT t c =
     letp_done c.requires.ready c.requires.here c.if-sc-gt-MOST_VARIABLES.false c.first-bound.ensures c.second-body.ensures
@@ -780,6 +1027,10 @@ binds::let_two-returns-else-form-ne-PRODUCT t c =
 pub binds::let_two-shape_of-ws-in-Refused : goal.binds::let_two-shape_of-ws-in-Refused
 binds::let_two-shape_of-ws-in-Refused t c =
     c.infer-r.auto.ws
+
+pub binds::let_two-shape_of-vars-in-Refused : goal.binds::let_two-shape_of-vars-in-Refused
+binds::let_two-shape_of-vars-in-Refused t c =
+    c.infer-r.auto.vars
 
 pub binds::let_two-returns-in-Refused : goal.binds::let_two-returns-in-Refused
 binds::let_two-returns-in-Refused t c =
@@ -832,6 +1083,10 @@ pub infer::pair-shape_of-ws-in-Typed : goal.infer::pair-shape_of-ws-in-Typed
 infer::pair-shape_of-ws-in-Typed t c =
     c.pair_up.auto.ws ∙ c.infer-r2.auto.ws ∙ c.infer-r.auto.ws
 
+pub infer::pair-shape_of-vars-in-Typed : goal.infer::pair-shape_of-vars-in-Typed
+infer::pair-shape_of-vars-in-Typed t c =
+    c.infer-r2.auto.vars ∙ c.infer-r.auto.vars
+
 pub infer::pair-returns-in-Typed : goal.infer::pair-returns-in-Typed
 infer::pair-returns-in-Typed t c =
     pair_done c.requires.ready c.requires.here c.first-left.ensures c.second-right.ensures c.infer-r.ensures
@@ -841,99 +1096,151 @@ pub infer::pair-shape_of-ws-in-Refused : goal.infer::pair-shape_of-ws-in-Refused
 infer::pair-shape_of-ws-in-Refused t c =
     c.infer-r.auto.ws
 
+pub infer::pair-shape_of-vars-in-Refused : goal.infer::pair-shape_of-vars-in-Refused
+infer::pair-shape_of-vars-in-Refused t c =
+    c.infer-r.auto.vars
+
 pub infer::pair-returns-in-Refused : goal.infer::pair-returns-in-Refused
 infer::pair-returns-in-Refused t c =
     pair-refused c.requires.ready c.requires.here c.first-left.ensures c.second-right.ensures c.infer-r.ensures
     c.in-Refused.is
 
-pub infer::unary-first-i-requires : goal.infer::unary-first-i-requires
-infer::unary-first-i-requires t c =
-    omega (arith, (unary-field c.requires.ready c.requires.here c.requires.single).room)
+pub infer::roll-first-i-requires : goal.infer::roll-first-i-requires
+infer::roll-first-i-requires t c =
+    omega (arith, read-roll c.requires.ready.entries c.requires.here)
 
-pub infer::unary-on_entering-d-requires-clause-sources : goal.infer::unary-on_entering-d-requires-clause-sources
-infer::unary-on_entering-d-requires-clause-sources t c =
-    let field = unary-field c.requires.ready c.requires.here c.requires.single in
-    (c.requires.ready.scoped.sources, rw c.first-i.ensures field.type)
+pub infer::roll-second-part-requires : goal.infer::roll-second-part-requires
+infer::roll-second-part-requires t c =
+    read-roll c.requires.ready.entries c.requires.here
 
-pub infer::unary-on_entering-d-requires-clause-counted : goal.infer::unary-on_entering-d-requires-clause-counted
-infer::unary-on_entering-d-requires-clause-counted t c =
-    let field = unary-field c.requires.ready c.requires.here c.requires.single in
-    (c.requires.ready.entries.counted, rw c.first-i.ensures field.shut)
+pub infer::roll-unfolded-body-requires-clause-readable : goal.infer::roll-unfolded-body-requires-clause-readable
+infer::roll-unfolded-body-requires-clause-readable t c =
+    (c.requires.ready.scoped.sources.entries, c.requires.ready.scoped.sources.figures.held)
 
-pub infer::unary-on_entering-d-requires-clause-kind_value : goal.infer::unary-on_entering-d-requires-clause-kind_value
-infer::unary-on_entering-d-requires-clause-kind_value t c =
-    let field = unary-field c.requires.ready c.requires.here c.requires.single in
-    c.requires.single
+pub infer::roll-unfolded-body-requires-clause-i_in_bounds : goal.infer::roll-unfolded-body-requires-clause-i_in_bounds
+infer::roll-unfolded-body-requires-clause-i_in_bounds t c =
+    roll_type c.requires.ready c.requires.here c.first-i.ensures
+    c.second-part.ensures
 
-pub infer::unary-second-part-requires : goal.infer::unary-second-part-requires
-infer::unary-second-part-requires t c =
-    (unary-field c.requires.ready c.requires.here c.requires.single).room
-
-pub infer::unary-offset-from-requires : goal.infer::unary-offset-from-requires
-infer::unary-offset-from-requires t c =
-    (unary-part c.requires.ready c.requires.here c.requires.single c.first-i.ensures c.second-part.ensures).1
-
-pub infer::unary-kind-form-requires : goal.infer::unary-kind-form-requires
-infer::unary-kind-form-requires t c =
-    (kind-there c.requires.ready.entries (unary-part c.requires.ready c.requires.here c.requires.single c.first-i.ensures c.second-part.ensures).1
-    c.offset-from.ensures).0
-
-pub infer::unary-unary-r-requires : goal.infer::unary-unary-r-requires
-infer::unary-unary-r-requires t c =
-    let part = unary-part c.requires.ready c.requires.here c.requires.single c.first-i.ensures c.second-part.ensures in
-    let ready = unary-ready c.requires.ready c.requires.here c.requires.single c.first-i.ensures c.second-part.ensures in (
-      omega (arith, c.decreases, part.0),
-      ready-unary (ready_for c.requires.signed ready part.1) (here part.1 c.offset-from.ensures c.kind-form.ensures refl)
-          (sym c.is_unary.ensures ∙ c.if-is_unary.true),
-    )
-
-pub infer::unary-expect-requires-clause-part_known : goal.infer::unary-expect-requires-clause-part_known
-infer::unary-expect-requires-clause-part_known t c =
-    let ready = unary-ready c.requires.ready c.requires.here c.requires.single c.first-i.ensures c.second-part.ensures in
-    told c.unary-r.ensures
-
-pub infer::unary-expect-requires-clause-known : goal.infer::unary-expect-requires-clause-known
-infer::unary-expect-requires-clause-known t c =
-    let ready = unary-ready c.requires.ready c.requires.here c.requires.single c.first-i.ensures c.second-part.ensures in
-    known_later ready.scoped.sources c.unary-r.ensures.kept c.on_entering-d.ensures.part
-
-pub infer::unary-shape_of-ws-then-is_unary : goal.infer::unary-shape_of-ws-then-is_unary
-infer::unary-shape_of-ws-then-is_unary t c =
-    c.unary-r.auto.ws
-
-pub infer::unary-returns-then-is_unary : goal.infer::unary-returns-then-is_unary
-infer::unary-returns-then-is_unary t c =
-    let ready = unary-ready c.requires.ready c.requires.here c.requires.single c.first-i.ensures c.second-part.ensures in
-    unary_done c.requires.ready c.requires.here c.requires.single c.first-i.ensures c.second-part.ensures c.on_entering-d.ensures c.if-d.true
-    (demand_done c.unary-r.ensures ready.scoped.sources c.on_entering-d.ensures.part c.on_entering-d.ensures.whole c.expect.ensures)
-
-pub infer::unary-infer-r2-requires : goal.infer::unary-infer-r2-requires
-infer::unary-infer-r2-requires t c =
-    let part = unary-part c.requires.ready c.requires.here c.requires.single c.first-i.ensures c.second-part.ensures in
-    let ready = unary-ready c.requires.ready c.requires.here c.requires.single c.first-i.ensures c.second-part.ensures in
+pub infer::roll-infer-r-requires : goal.infer::roll-infer-r-requires
+infer::roll-infer-r-requires t c =
+    let part = roll-part c.requires.ready c.requires.here c.first-i.ensures c.second-part.ensures in
+    let ready = roll-ready c.requires.ready c.requires.here c.first-i.ensures c.second-part.ensures in
     (omega (arith, c.decreases, part.0), ready_for c.requires.signed ready part.1)
 
-pub infer::unary-expect-requires-then-d-clause-part_known : goal.infer::unary-expect-requires-then-d-clause-part_known
-infer::unary-expect-requires-then-d-clause-part_known t c =
-    let ready = unary-ready c.requires.ready c.requires.here c.requires.single c.first-i.ensures c.second-part.ensures in
-    told c.infer-r2.ensures
+pub infer::roll-expect-requires-clause-part_known : goal.infer::roll-expect-requires-clause-part_known
+infer::roll-expect-requires-clause-part_known t c =
+    let ready = roll-ready c.requires.ready c.requires.here c.first-i.ensures c.second-part.ensures in
+    let known = roll-known c.requires.ready c.requires.here c.first-i.ensures c.second-part.ensures
+    c.unfolded-body.ensures c.in-Of.is in
+    told c.infer-r.ensures
 
-pub infer::unary-expect-requires-then-d-clause-known : goal.infer::unary-expect-requires-then-d-clause-known
-infer::unary-expect-requires-then-d-clause-known t c =
-    let ready = unary-ready c.requires.ready c.requires.here c.requires.single c.first-i.ensures c.second-part.ensures in
-    known_later ready.scoped.sources c.infer-r2.ensures.kept c.on_entering-d.ensures.part
+pub infer::roll-expect-requires-clause-known : goal.infer::roll-expect-requires-clause-known
+infer::roll-expect-requires-clause-known t c =
+    let ready = roll-ready c.requires.ready c.requires.here c.first-i.ensures c.second-part.ensures in
+    let known = roll-known c.requires.ready c.requires.here c.first-i.ensures c.second-part.ensures
+    c.unfolded-body.ensures c.in-Of.is in
+    known_later ready.scoped.sources c.infer-r.ensures.kept known
 
-pub infer::unary-shape_of-ws-then-d : goal.infer::unary-shape_of-ws-then-d
-infer::unary-shape_of-ws-then-d t c =
-    c.infer-r2.auto.ws
+pub infer::roll-shape_of-ws-in-Of : goal.infer::roll-shape_of-ws-in-Of
+infer::roll-shape_of-ws-in-Of t c =
+    c.infer-r.auto.ws
 
-pub infer::unary-returns-then-d : goal.infer::unary-returns-then-d
-infer::unary-returns-then-d t c =
-    let ready = unary-ready c.requires.ready c.requires.here c.requires.single c.first-i.ensures c.second-part.ensures in
-    unary_done c.requires.ready c.requires.here c.requires.single c.first-i.ensures c.second-part.ensures c.on_entering-d.ensures c.if-d.true
-    (demand_done c.infer-r2.ensures ready.scoped.sources c.on_entering-d.ensures.part c.on_entering-d.ensures.whole c.expect-then-d.ensures)
+pub infer::roll-shape_of-vars : goal.infer::roll-shape_of-vars
+infer::roll-shape_of-vars t c =
+    c.infer-r.auto.vars
 
-pub infer::unary-returns : goal.infer::unary-returns
-infer::unary-returns t c =
-    unary-no c.requires.ready c.requires.here c.requires.single c.first-i.ensures refl c.on_entering-d.ensures
-    c.if-d.false c.differ.ensures.0 c.differ.ensures.1
+pub infer::roll-returns-in-Of : goal.infer::roll-returns-in-Of
+infer::roll-returns-in-Of t c =
+    let ready = roll-ready c.requires.ready c.requires.here c.first-i.ensures c.second-part.ensures in
+    let known = roll-known c.requires.ready c.requires.here c.first-i.ensures c.second-part.ensures
+    c.unfolded-body.ensures c.in-Of.is in
+    roll_done c.requires.ready c.requires.here c.first-i.ensures c.second-part.ensures c.unfolded-body.ensures
+    c.in-Of.is c.entry-whole.ensures (demand_done c.infer-r.ensures ready.scoped.sources known
+    (roll_whole c.requires.ready c.requires.here c.first-i.ensures c.second-part.ensures
+    c.entry-whole.ensures) c.expect.ensures)
+
+pub infer::roll-returns-in-Other : goal.infer::roll-returns-in-Other
+infer::roll-returns-in-Other t c =
+    roll-no c.requires.ready c.requires.here c.first-i.ensures c.second-part.ensures c.unfolded-body.ensures
+    c.in-Other.is c.differ.ensures.0 c.differ.ensures.1
+
+pub infer::unroll-first-i-requires : goal.infer::unroll-first-i-requires
+infer::unroll-first-i-requires t c =
+    omega (arith, read_unroll c.requires.ready.entries c.requires.here)
+
+pub infer::unroll-second-part-requires : goal.infer::unroll-second-part-requires
+infer::unroll-second-part-requires t c =
+    read_unroll c.requires.ready.entries c.requires.here
+
+pub infer::unroll-unfolded-body-requires-clause-readable : goal.infer::unroll-unfolded-body-requires-clause-readable
+infer::unroll-unfolded-body-requires-clause-readable t c =
+    (c.requires.ready.scoped.sources.entries, c.requires.ready.scoped.sources.figures.held)
+
+pub infer::unroll-unfolded-body-requires-clause-i_in_bounds : goal.infer::unroll-unfolded-body-requires-clause-i_in_bounds
+infer::unroll-unfolded-body-requires-clause-i_in_bounds t c =
+    unroll_type c.requires.ready c.requires.here c.first-i.ensures
+    c.second-part.ensures
+
+pub infer::unroll-within_limit-requires-clause-sources : goal.infer::unroll-within_limit-requires-clause-sources
+infer::unroll-within_limit-requires-clause-sources t c =
+    c.requires.ready.scoped.sources
+
+pub infer::unroll-within_limit-requires-clause-known : goal.infer::unroll-within_limit-requires-clause-known
+infer::unroll-within_limit-requires-clause-known t c =
+    unroll_known c.requires.ready c.requires.here c.first-i.ensures
+    c.second-part.ensures c.unfolded-body.ensures c.in-Of.is
+
+pub infer::unroll-within_limit-requires-clause-counted : goal.infer::unroll-within_limit-requires-clause-counted
+infer::unroll-within_limit-requires-clause-counted t c =
+    c.requires.ready.entries.counted
+
+pub infer::unroll-infer-r-requires : goal.infer::unroll-infer-r-requires
+infer::unroll-infer-r-requires t c =
+    let part = unroll_part c.requires.ready c.requires.here c.first-i.ensures c.second-part.ensures in
+    let ready = unroll_ready c.requires.ready c.requires.here c.first-i.ensures c.second-part.ensures in
+    (omega (arith, c.decreases, part.0), ready_for c.requires.signed ready part.1)
+
+pub infer::unroll-expect-requires-clause-part_known : goal.infer::unroll-expect-requires-clause-part_known
+infer::unroll-expect-requires-clause-part_known t c =
+    let ready = unroll_ready c.requires.ready c.requires.here c.first-i.ensures c.second-part.ensures in
+    let whole = unroll_whole c.requires.ready c.requires.here c.first-i.ensures c.second-part.ensures
+    c.entry-whole.ensures in
+    told c.infer-r.ensures
+
+pub infer::unroll-expect-requires-clause-known : goal.infer::unroll-expect-requires-clause-known
+infer::unroll-expect-requires-clause-known t c =
+    let ready = unroll_ready c.requires.ready c.requires.here c.first-i.ensures c.second-part.ensures in
+    let whole = unroll_whole c.requires.ready c.requires.here c.first-i.ensures c.second-part.ensures
+    c.entry-whole.ensures in
+    known_later ready.scoped.sources c.infer-r.ensures.kept whole
+
+pub infer::unroll-shape_of-ws-then-within_limit : goal.infer::unroll-shape_of-ws-then-within_limit
+infer::unroll-shape_of-ws-then-within_limit t c =
+    c.infer-r.auto.ws
+
+pub infer::unroll-shape_of-vars-then-within_limit : goal.infer::unroll-shape_of-vars-then-within_limit
+infer::unroll-shape_of-vars-then-within_limit t c =
+    c.infer-r.auto.vars
+
+pub infer::unroll-returns-then-within_limit : goal.infer::unroll-returns-then-within_limit
+infer::unroll-returns-then-within_limit t c =
+    let ready = unroll_ready c.requires.ready c.requires.here c.first-i.ensures c.second-part.ensures in
+    let known = unroll_known c.requires.ready c.requires.here c.first-i.ensures c.second-part.ensures
+    c.unfolded-body.ensures c.in-Of.is in
+    let whole = unroll_whole c.requires.ready c.requires.here c.first-i.ensures c.second-part.ensures
+    c.entry-whole.ensures in
+    unroll_done c.requires.ready c.requires.here c.first-i.ensures c.second-part.ensures
+    c.unfolded-body.ensures c.in-Of.is c.within_limit.ensures c.if-within_limit.true
+    c.entry-whole.ensures (demand_done c.infer-r.ensures ready.scoped.sources whole known c.expect.ensures)
+
+pub infer::unroll-returns-else-within_limit : goal.infer::unroll-returns-else-within_limit
+infer::unroll-returns-else-within_limit t c =
+    unroll_large c.requires.ready c.requires.here c.first-i.ensures c.second-part.ensures
+    c.unfolded-body.ensures c.in-Of.is c.within_limit.ensures c.if-within_limit.false
+    c.differ.ensures.0 c.differ.ensures.1
+
+pub infer::unroll-returns-in-Other : goal.infer::unroll-returns-in-Other
+infer::unroll-returns-in-Other t c =
+    unroll_no c.requires.ready c.requires.here c.first-i.ensures c.second-part.ensures c.unfolded-body.ensures
+    c.in-Other.is c.differ-in-Other.ensures.0 c.differ-in-Other.ensures.1
