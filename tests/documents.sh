@@ -7,7 +7,7 @@ set -uo pipefail
 cd "$(dirname "$0")/.."
 . tests/counting.sh
 
-documents() { find . -name target -prune -o -name '*.md' -print | sed 's|^\./||' | LC_ALL=C sort; }
+documents() { find . \( -name target -o -name out \) -prune -o -name '*.md' -print | sed 's|^\./||' | LC_ALL=C sort; }
 
 # named FILE PATTERN: the texts of a document that a pattern finds, without what ends a sentence.
 named() { grep -oE "$2" "$1" | sed -E 's/[.,:;)]+$//' | LC_ALL=C sort -u; }
@@ -98,7 +98,7 @@ map() { diff <(mapped | LC_ALL=C sort) <(listed | LC_ALL=C sort); }
 names_in() {
     {
         find "crates/$1/src" -name '*.rt' -exec sed 's,//.*,,' {} + | grep -oE '(^|[^A-Za-z0-9_:])[a-z]+::' | grep -oE '[a-z]+'
-        find "crates/$1" -name must-fail -prune -o -type f -print0 | xargs -0 grep -ohE 'Rattle\.[a-z]+' | sed 's/Rattle\.//'
+        find "crates/$1" \( -name must-fail -o -name out \) -prune -o -type f -print0 | xargs -0 grep -ohE 'Rattle\.[a-z]+' | sed 's/Rattle\.//'
     } | LC_ALL=C sort -u | grep -vx "$1"
 }
 only_named() {
@@ -113,7 +113,7 @@ only_named() {
 }
 
 no_folder_of_a_machine() {
-    ! grep -rnIE --exclude-dir=target --exclude-dir=.git '(^|[^A-Za-z0-9_.])/(home|root|work)/[a-z]' .
+    ! grep -rnIE --exclude-dir=target --exclude-dir=out --exclude-dir=.git '(^|[^A-Za-z0-9_.])/(home|root|work)/[a-z]' .
 }
 
 while IFS= read -r document; do
