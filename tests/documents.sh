@@ -1,13 +1,13 @@
 #!/usr/bin/env bash
 # Holds the documents to the repository: what they link to or name as a path is there, modules that they name as CRATE/specs/X or CRATE/proofs/X too,
-# so are the edits that docs/CLAIMS.md names, which are all; the map of docs/ARCHITECTURE.md is that of crates.txt, which lists
-# for each crate the ones that it names; no file names a folder of one machine.
+# so are the edits that docs/CLAIMS.md names, which are all, and a crate declares what it names besides; the map of docs/ARCHITECTURE.md is that of
+# crates.txt, which lists for each crate the ones that it names; no file names a folder of one machine.
 # The last line is 'N passed, M failed'; the exit status is 0 only if M is 0.
 set -uo pipefail
 cd "$(dirname "$0")/.."
 . tests/counting.sh
 
-documents() { find . -name target -prune -o -name '*.md' -print | sed 's|^\./||' | LC_ALL=C sort; }
+documents() { find . \( -name target -o -name out \) -prune -o -name '*.md' -print | sed 's|^\./||' | LC_ALL=C sort; }
 
 # named FILE PATTERN: the texts of a document that a pattern finds, without what ends a sentence.
 named() { grep -oE "$2" "$1" | sed -E 's/[.,:;)]+$//' | LC_ALL=C sort -u; }
@@ -49,12 +49,27 @@ modules() {
     done < <(named "$1" '\b[a-z]+/(specs|proofs)/[A-Z][A-Za-z0-9/]*')
 }
 
+# What docs/CLAIMS.md says in the last column of the tables that have edits there; and all else that it says.
+of_edits() { awk -F'|' '/^\|/ { if (!inside) of_edits = $(NF - 1) ~ /edit/; inside = 1; if (of_edits) print $(NF - 1); next } { inside = 0 }' docs/CLAIMS.md; }
+of_all_else() { awk -F'|' '/^\|/ { if (!inside) of_edits = $(NF - 1) ~ /edit/; inside = 1; if (of_edits) $(NF - 1) = ""; print; next } { inside = 0; print }' docs/CLAIMS.md; }
+
+# Names of more than one word, in back quotes.
+quoted() { grep -oE '`[a-z0-9]+(_[a-z0-9]+)+`' | tr -d '`' | LC_ALL=C sort -u; }
+
+# What the crates' definitions and laws declare.
+declared() { find crates -path '*/out' -prune -o -name '*.antt' -print0 | xargs -0 grep -ohE '^ *[^-(){}: ][^(){}:]* :( |$)' | tr ' ' '\n' | LC_ALL=C sort -u; }
+
 edits() {
-    local name
+    local name names
     while IFS= read -r name; do
         there crates/*/must-fail/"$name".edit
         verdict "docs/CLAIMS.md names the edit $name" $?
-    done < <(grep -oE '`[a-z0-9]+(_[a-z0-9]+)+`' docs/CLAIMS.md | tr -d '`' | LC_ALL=C sort -u)
+    done < <(of_edits | quoted)
+    names=$(declared)
+    while IFS= read -r name; do
+        there crates/*/must-fail/"$name".edit || grep -qxF "$name" <<< "$names"
+        verdict "docs/CLAIMS.md names $name, an edit or a definition" $?
+    done < <(of_all_else | quoted)
     for name in crates/*/must-fail/*.edit; do
         grep -qF "\`$(basename "$name" .edit)\`" docs/CLAIMS.md
         verdict "$name is named by docs/CLAIMS.md" $?
@@ -83,7 +98,7 @@ map() { diff <(mapped | LC_ALL=C sort) <(listed | LC_ALL=C sort); }
 names_in() {
     {
         find "crates/$1/src" -name '*.rt' -exec sed 's,//.*,,' {} + | grep -oE '(^|[^A-Za-z0-9_:])[a-z]+::' | grep -oE '[a-z]+'
-        find "crates/$1" -name must-fail -prune -o -type f -print0 | xargs -0 grep -ohE 'Rattle\.[a-z]+' | sed 's/Rattle\.//'
+        find "crates/$1" \( -name must-fail -o -name out \) -prune -o -type f -print0 | xargs -0 grep -ohE 'Rattle\.[a-z]+' | sed 's/Rattle\.//'
     } | LC_ALL=C sort -u | grep -vx "$1"
 }
 only_named() {
@@ -98,7 +113,7 @@ only_named() {
 }
 
 no_folder_of_a_machine() {
-    ! grep -rnIE --exclude-dir=target --exclude-dir=.git '(^|[^A-Za-z0-9_.])/(home|root|work)/[a-z]' .
+    ! grep -rnIE --exclude-dir=target --exclude-dir=out --exclude-dir=.git '(^|[^A-Za-z0-9_.])/(home|root|work)/[a-z]' .
 }
 
 while IFS= read -r document; do
