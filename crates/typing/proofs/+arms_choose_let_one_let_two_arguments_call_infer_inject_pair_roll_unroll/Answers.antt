@@ -13,7 +13,7 @@ use own.Binding.{let_full, let_free, let_ready, let_bound, let_body, let_refused
 use own.Pairing.{pair-ready, pair_left, pair-right, pair-refused, pair_later, pair_up_left, pair-room, pair_done}
 use Rattle.typing.proofs.+arms_choose_let_one_let_two_arguments_call_infer_inject_pair_roll_unroll.Goals as goal
 
--- The functions of typing meet their contracts: the answers of Proof/, put together.
+-- The functions of typing meet their contracts.
 
 pub calling::arguments-returns-then-k-count : goal.calling::arguments-returns-then-k-count
 calling::arguments-returns-then-k-count t c =

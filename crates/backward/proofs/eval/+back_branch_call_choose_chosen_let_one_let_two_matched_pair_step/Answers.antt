@@ -27,7 +27,7 @@ use mathlib.Core.Logic.{inl as left, inr as right}
 use own.Arriving.{variable_meetable, variable-step, unit-step, no_kind}
 use Rattle.backward.proofs.eval.+back_branch_call_choose_chosen_let_one_let_two_matched_pair_step.Goals as goal
 
--- The functions of backward evaluation meet their contracts: the answers of Proof/, put together.
+-- The functions of backward evaluation meet their contracts.
 
 pub back-loop-known-init : goal.back-loop-known-init
 back-loop-known-init t c =

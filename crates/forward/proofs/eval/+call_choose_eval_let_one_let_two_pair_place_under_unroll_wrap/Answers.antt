@@ -18,7 +18,7 @@ use Rattle.rules.specs.Limits.{max_height, max_parameters}
 use Rattle.scopes.specs.Slots.{Machine}
 use Rattle.forward.proofs.eval.+call_choose_eval_let_one_let_two_pair_place_under_unroll_wrap.Goals as goal
 
--- The functions of forward evaluation meet their contracts: the answers of Proof/, put together.
+-- The functions of forward evaluation meet their contracts.
 
 pub call-third_of-requires : goal.call-third_of-requires
 call-third_of-requires t c =
