@@ -790,7 +790,6 @@ def main(argv):
         except OSError:
             print(said.stdout[-2000:])
             return 1
-    json.dump(names, open(f"/tmp/names-{crate}.json", "w"))
     contracts = clause_names(ROOT)
     left = 0
     for key, data in sorted(names.items()):
