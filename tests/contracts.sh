@@ -51,7 +51,7 @@ function judge(   parts, crate, name, result, changed) {
         if (required > 0) complain("it requires something")
         changed_parameters(head, changed)
         for (parameter in changed)
-            if (promise !~ ("(^|[^a-z_0-9.])" parameter "[.]new")) complain("what " parameter " is afterwards is not named")
+            if (promise !~ ("(^|[^a-z_0-9.])" parameter "[.]new([^a-z_0-9]|$)")) complain("what " parameter " is afterwards is not named")
     }
     printf "%-10s %-34s %-24s %8d %7d%s\n", crate, parts[4] (parts[5] == "" ? "" : "/" parts[5]), name, required, ensured, bad == "" ? "" : "   FAILED: " bad
     if (bad == "") passed++
@@ -73,7 +73,11 @@ inside {
     if (line ~ /^requires[* ]/) required++
     else if (line ~ /^ensures[* ]/) ensured++
     if (required + ensured == 0) head = head " " line
-    else if (ensured > 0) promise = promise " " line
+    else if (ensured > 0) {
+        # the name of a clause names nothing of what it says
+        sub(/^(requires|ensures)[*]? *[a-z_0-9]* *\{/, "{", line)
+        promise = promise " " line
+    }
     if (line == "{" || (required + ensured == 0 && line ~ /\{(.*\})?$/)) {
         judge()
         inside = 0
