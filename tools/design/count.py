@@ -56,10 +56,20 @@ def functions(text):
         opens = next((k for k in range(i, end + 1) if lines[k] == found.group(1) + "{"), i)
         head = "\n".join(lines[i : max(opens, i + 1)])
         signature = re.split(r"\n\s*(?:requires|ensures)\b", head)[0]
-        inside = signature[signature.index("(") + 1 : signature.rindex(")")] if ")" in signature else ""
+        inside = of_brackets(signature)
         parameters = [p.strip() for p in split_outside(inside) if p.strip()]
         clauses = re.findall(r"^\s*(requires|ensures)(?: \w+)? \{(.*?)\}\s*$", head, re.M)
         yield i + 1, found.group(2), parameters, clauses, "\n".join(lines[opens + 1 : end])
+
+
+def of_brackets(text):
+    """What stands between a text's first round bracket and the one that closes it."""
+    start, depth = text.find("(") + 1, 0
+    for k in range(start, len(text)):
+        if text[k] == ")" and depth == 0:
+            return text[start:k]
+        depth += (text[k] == "(") - (text[k] == ")")
+    return ""
 
 
 def split_outside(text):

@@ -1,13 +1,12 @@
 -- The answers of admission, each as the definition has it: rows 9, 10 and 11 in their order.
 use Prim.Native.Nat.{ℕ, ◌≤◌, ◌<◌}
 use native.Mathlib.Omega.{arith}
-use mathlib.Core.Path.{◌≡◌, refl, sym, ap, subst, ◌∙◌}
+use mathlib.Core.Path.{◌≡◌, refl, sym, ap, ◌∙◌}
 use mathlib.Core.Bool.{Bool, true, false, ◌&&◌}
 use mathlib.Core.Option.{Option, none, some}
-use mathlib.Core.List.{List, [], map}
+use mathlib.Core.List.{List, map}
 use lib.ListN.{length, get_or, length-map}
 use lib.Dec.{eqb}
-use package.Rattle.rules.specs.Limits.{max_functions}
 use package.Rattle.rules.specs.Val.{Val}
 use package.Rattle.rules.specs.Term.{Fun, nth}
 use package.Rattle.rules.proofs.Basics.{eqb_yes}
@@ -21,12 +20,11 @@ use package.Rattle.answers.specs.Answers.{accepts}
 use package.Rattle.answers.proofs.Answers.{refused_later}
 use package.Rattle.valuebytes.specs.Typing.{entries_of}
 use package.Rattle.valuebytes.specs.Ends.{value_in, values_in}
-use package.Rattle.admission.specs.declared.Admitted.TheVariants as admitted
+use Rattle.std.specs.Prelude.{Ok, Err}
 use package.Rattle.admission.specs.Given.{given_in}
-use package.Rattle.admission.specs.Admitting.{Callable, Admittable, in_number, right_in, side_number, side_of, all_typed, AdmitMeans}
+use package.Rattle.admission.specs.Admitting.{in_number, right_in, side_number, side_of, all_typed, AdmitMeans}
 use package.Rattle.admission.proofs.Right.{right-values}
 use package.Rattle.program.proofs.Programs.{function-there, function_none}
-use package.Rattle.program.specs.Signatures.{SignatureIs}
 use package.Rattle.program.specs.Programs.{program_in, function_in}
 
 ----------------------------------------------------------------
@@ -53,7 +51,7 @@ wrong h (some vs) none k e = refl
 wrong h (some vs) (some v) k e = untrue 10 (k vs v) e
 
 module _ (xs types functions : List ℕ) (g : ℕ) (anc bytes : List ℕ) (back : Bool) where
-  pub no-function : length functions ≤ g → AdmitMeans (admitted.Refused Function) xs types functions g anc bytes back
+  pub no-function : length functions ≤ g → AdmitMeans (Err Function) xs types functions g anc bytes back
   unfolding admit
   no-function l = record {
     answer = λ terms. sym (absent 9 _ (function_none xs functions g types terms l));
@@ -76,7 +74,7 @@ module _ (xs types functions : List ℕ) (g : ℕ) (anc bytes : List ℕ) (back 
     unfolding function_of
     count_same terms = sym (ap (λ h. length h.ancillae) (function_is terms) ∙ length-map h.ancillae (type_of (entries_of xs types)))
 
-    pub bad-values : {b : Bool} → b ≡ right_in anc bytes h → b ≡ false → AdmitMeans (admitted.Refused Values) xs types functions g anc bytes back
+    pub bad-values : {b : Bool} → b ≡ right_in anc bytes h → b ≡ false → AdmitMeans (Err Values) xs types functions g anc bytes back
     unfolding admit
     bad-values e f = record {
       answer = λ terms. sym (via _ (present_some 9 (there terms)) (wrong (function_in xs types terms (get_or functions g 0)) (ancillae anc) (value bytes) _
@@ -115,13 +113,13 @@ module _ (xs types functions : List ℕ) (g : ℕ) (anc bytes : List ℕ) (back 
           ∙ ap (λ c. has_tys (values_in anc) (map (type_of (entries_of xs types)) h.ancillae) && has_ty (value_in bytes) c) (side_same back terms)
 
       module _ {b : Bool} (e : b ≡ all_typed (entries_of xs types) h back anc bytes) where
-        pub wrong_type : b ≡ false → AdmitMeans (admitted.Refused ValueType) xs types functions g anc bytes back
+        pub wrong_type : b ≡ false → AdmitMeans (Err ValueType) xs types functions g anc bytes back
         wrong_type f = record {
           answer = λ terms. sym (reached terms ∙ untrue 11 _ (typed-same terms ∙ sym e ∙ f));
           later = λ terms. refused_later ValueType (omega arith);
         }
 
-        pub all_given : b ≡ true → AdmitMeans admitted.Given xs types functions g anc bytes back
+        pub all_given : b ≡ true → AdmitMeans (Ok tt) xs types functions g anc bytes back
         all_given y = record {
           answer = λ terms. sym (reached terms ∙ via _ (require_yes 11 0 (typed-same terms ∙ sym e ∙ y)) refl);
           later = λ terms. accepts;
@@ -133,17 +131,3 @@ index-there e l = omega arith
 
 pub index-beyond : {i g n : ℕ} → i ≡ g → n ≤ i → n ≤ g
 index-beyond e l = omega arith
-
--- the function's field, where it was read
-module _ {xs types functions : List ℕ} {table : List (List ℕ)} (A : Admittable xs types functions table) {g at : ℕ} (l : g < length functions)
-    (q : at ≡ get_or functions g 0) where
-  pub callable-at : Callable xs types at
-  callable-at = subst (Callable xs types) (sym q) (A.function g l)
-
-  -- its row of the table of signatures, by the number as widened
-  pub row-there : {i : ℕ} → i ≡ g → i < max_functions
-  row-there e = omega (arith, l, A.few)
-
-  pub row_at : {i : ℕ} → i ≡ g → SignatureIs (function_at xs at) (get_or table i [])
-  row_at e = subst (λ i. SignatureIs (function_at xs at) (get_or table i [])) (sym e)
-      (subst (λ at. SignatureIs (function_at xs at) (get_or table g [])) (sym q) (A.signed.rows g l))

@@ -12,20 +12,20 @@ use package.Rattle.rules.proofs.Basics.{eqb-sound}
 use package.Rattle.calls.specs.Entries.{FunctionEntry, function_at}
 use package.Rattle.calls.specs.Values.{value, ancillae}
 use package.Rattle.calls.specs.Book.{or_unit, or_none}
-use package.Rattle.valuebytes.specs.declared.scan.Counted.TheVariants as count
+use Rattle.std.specs.Prelude.{Some, None}
 use package.Rattle.valuebytes.specs.Ends.{is_some, is_value, counted}
 use package.Rattle.admission.specs.Admitting.{in_number, right_in}
 
 ----------------------------------------------------------------
 -- What the counts say
 
-malformed≢values : {n : ℕ} → count.Malformed ≡ count.Values n → ⊥
+malformed≢values : {n : ℕ} → None ≡ Some n → ⊥
 malformed≢values e = let z : ◌≡◌ {A = ℕ} 0 1 = cc in omega arith
 
-values_inj : {n m : ℕ} → count.Values n ≡ count.Values m → n ≡ m
+values_inj : {n m : ℕ} → Some n ≡ Some m → n ≡ m
 values_inj e = cc
 
-none_counted : (o : Option (List Val)) (v? : Option Val) (n : ℕ) → count.Malformed ≡ counted o → false ≡ in_number o v? n
+none_counted : (o : Option (List Val)) (v? : Option Val) (n : ℕ) → None ≡ counted o → false ≡ in_number o v? n
 unfolding counted in_number
 none_counted none v? n e = refl
 none_counted (some vs) v? n e = absurd (malformed≢values e)
@@ -36,7 +36,7 @@ no_value none v? n e = refl
 no_value (some vs) none n e = refl
 no_value (some vs) (some v) n e = absurd (false≢true (sym e))
 
-all-counted : (o : Option (List Val)) (v? : Option Val) (n m : ℕ) → count.Values m ≡ counted o → is_some v? ≡ true → eqb m n ≡ in_number o v? n
+all-counted : (o : Option (List Val)) (v? : Option Val) (n m : ℕ) → Some m ≡ counted o → is_some v? ≡ true → eqb m n ≡ in_number o v? n
 unfolding counted in_number
 all-counted none v? n m e s = absurd (malformed≢values (sym e))
 all-counted (some vs) none n m e s = absurd (false≢true s)
@@ -46,13 +46,13 @@ module _ (anc bytes xs : List ℕ) (at : ℕ) where
   abbrev h : FunctionEntry
   h = function_at xs at
 
-  pub right_none : count.Malformed ≡ counted (ancillae anc) → false ≡ right_in anc bytes h
+  pub right_none : None ≡ counted (ancillae anc) → false ≡ right_in anc bytes h
   right_none e = none_counted (ancillae anc) (value bytes) (length h.ancillae) e
 
   pub right_not : {b : Bool} → b ≡ is_value bytes → b ≡ false → false ≡ right_in anc bytes h
   right_not e f = no_value (ancillae anc) (value bytes) (length h.ancillae) (sym e ∙ f)
 
-  pub right-number : {b : Bool} {m n : ℕ} → count.Values m ≡ counted (ancillae anc) → b ≡ is_value bytes → b ≡ true → n ≡ length h.ancillae
+  pub right-number : {b : Bool} {m n : ℕ} → Some m ≡ counted (ancillae anc) → b ≡ is_value bytes → b ≡ true → n ≡ length h.ancillae
       → eqb m n ≡ right_in anc bytes h
   right-number {b} {m} {n} e q t l =
       ap (eqb m) l ∙ all-counted (ancillae anc) (value bytes) (length h.ancillae) m e (sym q ∙ t)

@@ -1,6 +1,6 @@
 -- What admission asks of the program, and what it answers (section 4, row Call). Admission looks at no term, so what it answers is said
 -- whatever the terms are.
-use Rattle.std.specs.Prelude.{ℕ, ◌≤◌, ◌<◌, ◌≡◌, Bool, true, false, ◌&&◌, List, map, length, get_or, eqb}
+use Rattle.std.specs.Prelude.{ℕ, ◌≤◌, ◌<◌, ◌≡◌, Bool, true, false, ◌&&◌, List, map, length, get_or, eqb, Result, Ok, Err}
 use Rattle.std.proofs.Math.Option.{Option, none, some}
 use package.Rattle.rules.specs.Limits.{max_functions}
 use package.Rattle.rules.specs.Val.{Val}
@@ -11,14 +11,13 @@ use package.Rattle.calls.specs.Entries.{TypeEntry, type_of, FunctionEntry, funct
 use package.Rattle.calls.specs.Named.{types_of_function, below, all_plain}
 use package.Rattle.calls.specs.Values.{value, ancillae, has_ty, has_tys}
 use package.Rattle.calls.specs.Runs.{Given, admit}
+use package.Rattle.answers.specs.declared.Refusal.{Refusal}
 use package.Rattle.answers.specs.Answers.{number_of, place_of, Later}
 use package.Rattle.program.specs.Parts.{FunctionField}
 use package.Rattle.program.specs.Signatures.{SignaturesAre}
 use package.Rattle.program.specs.Programs.{program_in}
 use package.Rattle.valuebytes.specs.Typing.{entries_of, TypesRead}
 use package.Rattle.valuebytes.specs.Ends.{value_in, values_in}
-use package.Rattle.admission.specs.declared.Admitted.{Admitted}
-use package.Rattle.admission.specs.declared.Admitted.TheVariants as admitted
 use package.Rattle.admission.specs.Given.{given_in}
 
 ----------------------------------------------------------------
@@ -71,11 +70,11 @@ all_typed ys h back anc bytes = has_tys (values_in anc) (map (type_of ys) h.anci
 ----------------------------------------------------------------
 -- The answer
 
-abbrev pub answer_of : Admitted → Given → Answer Given
-answer_of admitted.Given a = accepted a
-answer_of (admitted.Refused r) a = refused (number_of r) (place_of r)
+abbrev pub answer_of : Result (Unit {0}) Refusal → Given → Answer Given
+answer_of (Ok tt) a = accepted a
+answer_of (Err r) a = refused (number_of r) (place_of r)
 
-pub record AdmitMeans (r : Admitted) (xs types functions : List ℕ) (g : ℕ) (anc bytes : List ℕ) (back : Bool) : Type 0 where
+pub record AdmitMeans (r : Result (Unit {0}) Refusal) (xs types functions : List ℕ) (g : ℕ) (anc bytes : List ℕ) (back : Bool) : Type 0 where
   pub answer : (terms : List ℕ) → answer_of r (given_in xs types terms functions g anc bytes)
       ≡ admit (program_in xs types terms functions) g (ancillae anc) (value bytes) (side_of back)
   pub later : (terms : List ℕ) → Later (answer_of r (given_in xs types terms functions g anc bytes))

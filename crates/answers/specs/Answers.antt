@@ -1,6 +1,6 @@
 -- The answers of the public calls in the definitions' terms (section 4): of each kind of refusal its number and place, of each answer
 -- what calls/specs/Runs, Conversions and Readers say it is.
-use Rattle.std.specs.Prelude.{ℕ, ◌≤◌, List, length}
+use Rattle.std.specs.Prelude.{ℕ, ◌≤◌, List, length, Result, Ok, Err}
 use package.Rattle.rules.specs.Val.{size}
 use package.Rattle.calls.specs.Answer.{Answer, accepted, refused}
 use package.Rattle.calls.specs.Runs.{Ran}
@@ -8,14 +8,8 @@ use package.Rattle.calls.specs.Conversions.{Turned}
 use package.Rattle.calls.specs.Readers.{Seen}
 use package.Rattle.answers.specs.declared.Refusal.{Refusal}
 use package.Rattle.answers.specs.declared.Refusal.TheVariants.{Workspace, Field, Limit, Reference, NamedType, Mismatch, Scope, Usage, Function, Values, ValueType, Fuel, Height, Long, FirstMatch, NoInput, Output, Journal, Standing, Full}
-use package.Rattle.answers.specs.declared.CheckAnswer.{CheckAnswer}
-use package.Rattle.answers.specs.declared.CheckAnswer.TheVariants as checks
-use package.Rattle.answers.specs.declared.RunAnswer.{RunAnswer}
-use package.Rattle.answers.specs.declared.RunAnswer.TheVariants as runs
-use package.Rattle.answers.specs.declared.NurseAnswer.{NurseAnswer}
-use package.Rattle.answers.specs.declared.NurseAnswer.TheVariants as nurses
-use package.Rattle.answers.specs.declared.WriteAnswer.{WriteAnswer}
-use package.Rattle.answers.specs.declared.WriteAnswer.TheVariants as writes
+use package.Rattle.answers.specs.declared.Done.{Done}
+use package.Rattle.answers.specs.declared.Shown.{Shown}
 
 -- the number of a refusal by section 4's table, and its place: for 2 to 8 the offset of the field's first byte, for 12 to 16 the term entry,
 -- otherwise 0
@@ -48,24 +42,24 @@ abbrev pub place_of : Refusal → ℕ
 place_of r = (number_and_place r).1
 
 -- check answers only that it accepts, or a refusal (section 4)
-abbrev pub check_answer : CheckAnswer → Answer (Unit {0})
-check_answer checks.Accepted = accepted tt
-check_answer (checks.Refused r) = refused (number_of r) (place_of r)
+abbrev pub check_answer : Result (Unit {0}) Refusal → Answer (Unit {0})
+check_answer (Ok _) = accepted tt
+check_answer (Err r) = refused (number_of r) (place_of r)
 
 -- a run, and convert and rollback, answer a value's length and the steps, or a refusal (section 4)
-abbrev pub run_answer : RunAnswer → Answer (ℕ × ℕ)
-run_answer (runs.Ran d) = accepted (d.len, d.steps)
-run_answer (runs.Refused r) = refused (number_of r) (place_of r)
+abbrev pub run_answer : Result Done Refusal → Answer (ℕ × ℕ)
+run_answer (Ok d) = accepted (d.len, d.steps)
+run_answer (Err r) = refused (number_of r) (place_of r)
 
 -- the nurse's reader answers the held value's length and how many conversions stand, or a refusal (02, F-1)
-abbrev pub nurse_answer : NurseAnswer → Answer (ℕ × ℕ)
-nurse_answer (nurses.Shows s) = accepted (s.len, s.standing)
-nurse_answer (nurses.Refused r) = refused (number_of r) (place_of r)
+abbrev pub nurse_answer : Result Shown Refusal → Answer (ℕ × ℕ)
+nurse_answer (Ok s) = accepted (s.len, s.standing)
+nurse_answer (Err r) = refused (number_of r) (place_of r)
 
 -- a call that writes bytes into its output answers their length, or a refusal
-abbrev pub write_answer : WriteAnswer → Answer ℕ
-write_answer (writes.Wrote n) = accepted n
-write_answer (writes.Refused r) = refused (number_of r) (place_of r)
+abbrev pub write_answer : Result ℕ Refusal → Answer ℕ
+write_answer (Ok n) = accepted n
+write_answer (Err r) = refused (number_of r) (place_of r)
 
 -- what is answered of an outcome; a refusal stands
 abbrev pub answering : {A B : Type 0} → (A → B) → Answer A → Answer B

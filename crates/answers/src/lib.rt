@@ -4,7 +4,7 @@
 
 // A refusal by its kind, in the order of section 4's table, 1 to 20, with its place: the offset of a field's first byte (2 to 8), or a
 // term entry (12 to 16); the others have none.
-#[derive(Clone, Copy)]
+#[derive(Clone, Copy, PartialEq, Eq, Debug)]
 pub enum Refusal {
     Workspace,
     Field(usize),
@@ -29,41 +29,25 @@ pub enum Refusal {
 }
 
 // Check and open answer only that they accept.
-#[derive(Drop)]
-pub enum CheckAnswer {
-    Accepted,
-    Refused(Refusal),
-}
+pub type CheckAnswer = Result<(), Refusal>;
 
 // The length of a run's value, or of the record that convert and rollback leave held, and the steps.
-#[derive(Drop)]
+#[derive(Clone, Copy, PartialEq, Eq, Debug)]
 pub struct Done {
     pub len: u16,
     pub steps: u16,
 }
 
-#[derive(Drop)]
-pub enum RunAnswer {
-    Ran(Done),
-    Refused(Refusal),
-}
+pub type RunAnswer = Result<Done, Refusal>;
 
 // The length of the held value, which the nurse's reader wrote, and how many conversions stand (document 02, F-1).
-#[derive(Drop)]
+#[derive(Clone, Copy, PartialEq, Eq, Debug)]
 pub struct Shown {
     pub len: u16,
     pub standing: u16,
 }
 
-#[derive(Drop)]
-pub enum NurseAnswer {
-    Shows(Shown),
-    Refused(Refusal),
-}
+pub type NurseAnswer = Result<Shown, Refusal>;
 
 // How many bytes a call wrote into its output.
-#[derive(Drop)]
-pub enum WriteAnswer {
-    Wrote(usize),
-    Refused(Refusal),
-}
+pub type WriteAnswer = Result<usize, Refusal>;

@@ -8,7 +8,7 @@ use mathlib.Core.List.{List}
 use lib.ListN.{length, get_or, set, length-set}
 use lib.Seq.{get_or-set_other}
 use lib.Dec.{eqb}
-use borrow.Author.Tests.{eq-eqb, eqb-true, eqb-false}
+use borrow.Author.Tests.{eqb-true, eqb-false}
 use package.Rattle.rules.specs.Limits.{max_variables}
 use package.Rattle.program.specs.Kinds.{variable_kind, unit_kind}
 use package.Rattle.rules.specs.Val.{Val, same}
@@ -19,36 +19,37 @@ use package.Rattle.decoded.proofs.Trees.{NoKind, none_left}
 use package.Rattle.valuegraph.specs.Nodes.{Made, value_at, kind_at as nodeKind}
 use package.Rattle.scopes.specs.Slots.{unknown, found, Slot, Machine, Scope, machine_of, slots_of, scope_in, Moved}
 use package.Rattle.scopes.specs.Cells.{Linked}
-use package.Rattle.scopes.specs.declared.slots.Found.TheVariants.{Node}
+use Rattle.std.specs.Prelude.{Some}
 use package.Rattle.scopes.specs.Bindings.{slots_from, state_of, said, seen, Meets, Meetable}
 use package.Rattle.scopes.specs.declared.bindings.Bindings.{Bindings}
 use package.Rattle.scopes.proofs.Views.{view_at, binds_view, compares_view, tells_later, tells-bound, said-told, told-seen, by_slot}
-use package.Rattle.forward.specs.Outcomes.{refusal_in}
 use package.Rattle.backward.specs.Ready.{Prepared, Gone, GoneFrom, Variable, UnitMet, Stays, run_at, step_at, PreparedIn, StepsBack}
-use package.Rattle.backward.specs.Outcomes.{Refused, carried, outcome_of, scope_view, status_of, too_long}
+use package.Rattle.backward.specs.Outcomes.{Refused, outcome_of, scope_view, too_long}
 use package.Rattle.backward.proofs.Runs.{small_top}
-use package.Rattle.backward.proofs.Stops.{is_done, number-height, number-fuel}
+use package.Rattle.backward.proofs.Stops.{is_done, is_stopped}
 use package.Rattle.backward.proofs.Frames.{older_later, few-ancillae, gone-refused}
 use package.Rattle.backward.proofs.Leaves.{variable-met, variable-differs, variable-bound, unit-met, unit-stuck}
 use package.Rattle.backward.proofs.Parts.{scoped-var}
 use package.Rattle.backward.proofs.Entering.{term-ready, term_done, over-ready, over_done, over-long, term_high, term-spent}
 use package.Rattle.backward.proofs.Steps.{var_done, var-bound, unit_done}
-use Rattle.backward.specs.declared.outcomes.Out.{Out}
-use Rattle.backward.specs.declared.outcomes.Refusal.TheVariants.{NoInput}
+use Rattle.std.specs.Prelude.{Ok, Err}
+use package.Rattle.backward.specs.Outcomes.{Out}
+use Rattle.backward.specs.declared.outcomes.Refusal.{Refusal}
+use Rattle.backward.specs.declared.outcomes.Refusal.TheVariants.{Fuel, Height, NoInput, Stuck}
+use Rattle.std.specs.Bool.{then_some}
+use Rattle.std.specs.Result.{result_ok}
 
 ----------------------------------------------------------------
 -- A unit of fuel is taken
 
 module _ {code heap slots : List ℕ} {m : Machine} {b : Bindings} {sc : Scope} {t room : ℕ} (P : Prepared 0 0 code heap slots m b sc sc.n t room)
     {node : ℕ} (low : node < m.top) where
-  pub fuel-gone : {r : Out} → status_of r.stop ≡ Refused (carried (refusal_in 12 t)) → m.fuel ≡ 0
-      → Gone 0 heap heap slots slots m m sc r (run_at code heap slots m sc t (value_at heap node) room)
-  fuel-gone e z = gone-refused e (term-spent P.ready low _ (e ∙ ap Refused (number-fuel t)) refl z)
+  pub fuel-gone : m.fuel ≡ 0 → Gone 0 heap heap slots slots m m sc (Err (Fuel t)) (run_at code heap slots m sc t (value_at heap node) room)
+  fuel-gone z = gone-refused refl (term-spent P.ready low _ refl refl z)
 
   module _ (some-fuel : ¬ (m.fuel ≡ 0)) where
-    pub height-gone : {r : Out} → status_of r.stop ≡ Refused (carried (refusal_in 13 t)) → room ≡ 0
-        → Gone 0 heap heap slots slots m m sc r (run_at code heap slots m sc t (value_at heap node) room)
-    height-gone e z = gone-refused e (term_high P.ready low some-fuel _ (e ∙ ap Refused (number-height t)) refl z)
+    pub height-gone : room ≡ 0 → Gone 0 heap heap slots slots m m sc (Err (Height t)) (run_at code heap slots m sc t (value_at heap node) room)
+    height-gone z = gone-refused refl (term_high P.ready low some-fuel _ refl refl z)
 
     module _ (some-room : ¬ (room ≡ 0)) {slots₁ : List ℕ} (es : slots₁ ≡ slots) {m₁ : Machine} (em : m₁ ≡ record { top = m.top; fuel = m.fuel - 1 }) where
       pub taken-prepared : Prepared 2 1 code heap slots₁ m₁ b sc sc.n t room
@@ -101,9 +102,9 @@ module _ {code heap slots : List ℕ} {m : Machine} {b : Bindings} {sc : Scope} 
             → Gone 1 heap heap₂ slots slots₂ m m' sc r (run_at code heap slots m sc t v room)
         from G = record { ran = over_done P.ready M e G.ran; below = G.below; tells = G.tells }
 
-  pub made-long : made ≡ false → {fuel : ℕ} → fuel ≡ m.fuel → {r : Out} → status_of r.stop ≡ Refused (too_long fuel room t)
-      → Gone 1 heap heap₁ slots slots m m sc r (run_at code heap slots m sc t v room)
-  made-long e q s = gone-refused s (over-long P.ready M e _ (rw q at s) refl)
+  pub made-long : made ≡ false → {fuel : ℕ} → fuel ≡ m.fuel → {why : Refusal} → why ≡ too_long fuel room t
+      → Gone 1 heap heap₁ slots slots m m sc (Err why) (run_at code heap slots m sc t v room)
+  made-long e q s = gone-refused refl (over-long P.ready M e _ (ap Refused (rw q at s)) refl)
 
 ----------------------------------------------------------------
 -- A variable
@@ -144,37 +145,51 @@ module _ {code heap slots : List ℕ} {m : Machine} {b : Bindings} {sc : Scope} 
 
     -- it was bound before
     pub compared_gone : {r : Out} {old : ℕ} → (get_or slots (sc.base + first_in code t) 0 ≡ unknown → ⊥)
-        → found heap (get_or slots (sc.base + first_in code t) 0) ≡ Node old → eqb r.stop 0 ≡ same (value_at heap old) (value_at heap node)
-        → r.state ≡ b → ((r.stop ≡ 0 → ⊥) → status_of r.stop ≡ Refused (NoInput t)) → Stepped heap slots m r
-    compared_gone {r} {old} known f agrees same-state differs = go (eqb r.stop 0) refl
+        → found heap (get_or slots (sc.base + first_in code t) 0) ≡ Some old → result_ok r ≡ then_some (same (value_at heap old) (value_at heap node)) b
+        → ((why : Refusal) → r ≡ Err why → why ≡ NoInput t) → Stepped heap slots m r
+    compared_gone {r} {old} known f agrees differs = go (same (value_at heap old) (value_at heap node)) refl r refl agrees
       where
-        met : Meets heap (scope_view slots sc) (first_in code t) node node (eqb r.stop 0) (scope_view slots sc)
-        met = compares_view slots sc.base (first_in code t) sc.n in_scope few heap node node known f agrees
+        met : (agree : Bool) → agree ≡ same (value_at heap old) (value_at heap node) → Meets heap (scope_view slots sc) (first_in code t) node node agree (scope_view slots sc)
+        met agree e = compares_view slots sc.base (first_in code t) sc.n in_scope few heap node node known f e
 
-        gone : Stays heap m (scope_view slots sc) (outcome_of r.stop slots m sc)
-            (meet t (state_of heap (scope_view slots sc)) (first_in code t) (value_at heap node) m.fuel) → Stepped heap slots m r
-        gone S = record { ran = var_done P.ready low kind refl S; below = λ j l. refl; tells = λ _. rw same-state P.tells }
+        gone : (out : Out) → ((bs : Bindings) → out ≡ Ok bs → bs ≡ b) → Stays heap m (scope_view slots sc) (outcome_of out slots m sc)
+            (meet t (state_of heap (scope_view slots sc)) (first_in code t) (value_at heap node) m.fuel) → Stepped heap slots m out
+        gone out as_was S = record { ran = var_done P.ready low kind refl S; below = λ j l. refl; tells = λ bs e. rw (as_was bs e) P.tells }
 
-        go : (stops : Bool) → eqb r.stop 0 ≡ stops → Stepped heap slots m r
-        go true e = gone (variable-met met P.ready.binds.bound (omega (arith, small)) in_scope low t e (is_done (eqb-true r.stop 0 e)))
-        go false e = gone (variable-differs met P.ready.binds.bound (omega (arith, small)) in_scope low t e (differs (eqb-false r.stop 0 e)))
+        go : (agree : Bool) → agree ≡ same (value_at heap old) (value_at heap node) → (out : Out) → out ≡ r → result_ok out ≡ then_some agree b → Stepped heap slots m r
+        go true e (Ok bs) q s =
+            let here : bs ≡ b = cc in
+            rw (← q) (gone (Ok bs) (λ bs' z. let p : bs' ≡ bs = cc in p ∙ here)
+            (variable-met (met true e) P.ready.binds.bound (omega (arith, small)) in_scope low t refl refl))
+        go true e (Err why) q s = cc
+        go false e (Ok bs) q s = cc
+        go false e (Err why) q s =
+            rw (← q) (gone (Err why) (λ bs z. cc) (variable-differs (met false e) P.ready.binds.bound (omega (arith, small)) in_scope low t refl
+            (ap Refused (differs why (sym q)))))
 
     -- it was not
-    pub assigned_gone : {heap' slots' : List ℕ} {m' : Machine} {r : Out} → get_or slots (sc.base + first_in code t) 0 ≡ unknown → r.stop ≡ 0
+    pub assigned_gone : {heap' slots' : List ℕ} {m' : Machine} {r : Out} → get_or slots (sc.base + first_in code t) 0 ≡ unknown
+        → result_ok r ≡ Some (record { head = m.top })
         → Linked heap heap' m.top node (first_in code t) b.head → slots' ≡ set slots (sc.base + first_in code t) (unknown + m.top)
-        → m' ≡ record { top = m.top + 1; fuel = m.fuel } → r.state.head ≡ m.top → Stepped heap' slots' m' r
-    assigned_gone {heap'} {slots'} {m'} {r} none-known e C s em eh = rw em (record {
-      ran = var-bound P.ready low kind (variable-bound slots slots' m P.ready.machine.graph C met P.ready.binds.bound small in_scope low
-          lengths t (eq-eqb r.stop 0 e) (is_done e));
-      below = λ j l. rw s (sym (get_or-set_other slots (sc.base + first_in code t) j (unknown + m.top) 0 (λ z. omega arith)));
-      tells = λ _. tells-bound P.tells in_scope C low (omega (arith, small)) (omega (arith, P.ready.machine.small)) there s eh;
-    })
+        → m' ≡ record { top = m.top + 1; fuel = m.fuel } → Stepped heap' slots' m' r
+    assigned_gone {heap'} {slots'} {m'} {r} none-known e C s em = go r e
       where
-        met : Meets heap' (scope_view slots sc) (first_in code t) node (unknown + m.top) (eqb r.stop 0) (scope_view slots' sc)
-        met = binds_view slots sc.base (first_in code t) sc.n in_scope few heap' node there none-known (eq-eqb r.stop 0 e) s
+        met : Meets heap' (scope_view slots sc) (first_in code t) node (unknown + m.top) true (scope_view slots' sc)
+        met = binds_view slots sc.base (first_in code t) sc.n in_scope few heap' node there none-known refl s
 
         lengths : length slots ≡ length slots'
         lengths = rw s (sym (length-set slots (sc.base + first_in code t) (unknown + m.top)))
+
+        go : (r : Out) → result_ok r ≡ Some (record { head = m.top }) → Stepped heap' slots' m' r
+        go (Ok bs) e = rw em (record {
+          ran = var-bound P.ready low kind (variable-bound slots slots' m P.ready.machine.graph C met P.ready.binds.bound small in_scope low
+              lengths t refl refl);
+          below = λ j l. rw s (sym (get_or-set_other slots (sc.base + first_in code t) j (unknown + m.top) 0 (λ z. omega arith)));
+          tells = λ bs' z.
+              let here : bs' ≡ record { head = m.top } = cc in
+              tells-bound P.tells in_scope C low (omega (arith, small)) (omega (arith, P.ready.machine.small)) there s (ap (λ (b : Bindings). b.head) here);
+        })
+        go (Err why) e = cc
 
   ----------------------------------------------------------------
   -- The unit
@@ -183,18 +198,20 @@ module _ {code heap slots : List ℕ} {m : Machine} {b : Bindings} {sc : Scope} 
       → Gone 2 heap heap slots slots m m sc r (step_at code heap slots m sc t (value_at heap node) room)
   unit-gone kind {r} U = go (eqb (nodeKind heap node) 0) refl
     where
-      gone : Stays heap m (scope_view slots sc) (outcome_of r.stop slots m sc)
+      gone : ((bs : Bindings) → r ≡ Ok bs → bs ≡ b) → Stays heap m (scope_view slots sc) (outcome_of r slots m sc)
           (on_unit (value_at heap node) (give (state_of heap (scope_view slots sc))) m.fuel)
           → Gone 2 heap heap slots slots m m sc r (step_at code heap slots m sc t (value_at heap node) room)
-      gone S = record { ran = unit_done P.ready low kind S; below = λ j l. refl; tells = λ _. rw U.state P.tells }
+      gone as_was S = record { ran = unit_done P.ready low kind S; below = λ j l. refl; tells = λ bs e. rw (as_was bs e) P.tells }
 
       go : (u : Bool) → eqb (nodeKind heap node) 0 ≡ u → Gone 2 heap heap slots slots m m sc r (step_at code heap slots m sc t (value_at heap node) room)
       go true e =
           let u = eqb-true (nodeKind heap node) 0 e in
-          gone (unit-met m P.ready.machine.graph P.ready.binds.bound node u (is_done (U.met u)))
+          let q : r ≡ Ok b = U.met u in
+          gone (λ bs z. let p : bs ≡ b = cc in p) (unit-met m P.ready.machine.graph P.ready.binds.bound node u (is_done q))
       go false e =
           let u = eqb-false (nodeKind heap node) 0 e in
-          gone (unit-stuck m P.ready.machine.graph P.ready.binds.bound node u (U.differs u))
+          let q : r ≡ Err Stuck = U.differs u in
+          gone (λ bs z. cc) (unit-stuck m P.ready.machine.graph P.ready.binds.bound node u (is_stopped q))
 
   -- there is no other kind
   pub no_kind : {k : ℕ} → k ≡ kind_in code t → NoKind k → {A : Type 0} → A
@@ -228,11 +245,11 @@ variable-step {code} {heap} {heap'} {st} {st'} {b} {scope} {t} {room} Q {node} l
     by_slot (scope_in scope) E.met (variable-said P low kind) (variable-slot P low kind) (small_top P.ready.machine)
     (λ u A. record {
       lengths = A.lengths;
-      gone = assigned_gone P low kind u (eqb-true r.stop 0 A.agrees) A.linked A.slots A.machine A.head;
+      gone = assigned_gone P low kind u A.agrees A.linked A.slots A.machine;
     })
     (λ old d f C. step_same C.heap_same C.numbers_same (record {
       lengths = refl;
-      gone = compared_gone P low kind d f C.agrees C.state_same E.differs;
+      gone = compared_gone P low kind d f C.agrees E.differs;
     }))
   where
     step_same : heap' ≡ heap → st' ≡ st → StepsBack code heap heap st st scope t node room r → StepsBack code heap heap' st st' scope t node room r

@@ -35,7 +35,10 @@ use package.Rattle.backward.proofs.Leaves.{opened-binds}
 use package.Rattle.backward.proofs.Frames.{beside, older_later}
 use package.Rattle.backward.proofs.Leaving.{LeftBehind, left_behind, held-under, cell-ready, under_left, left-tells, left_below}
 use package.Rattle.backward.proofs.Opening.{under-opened}
-use Rattle.backward.specs.declared.outcomes.Out.{Out}
+use Rattle.std.specs.Prelude.{Ok, Err}
+use package.Rattle.backward.specs.Outcomes.{Out}
+use Rattle.backward.specs.declared.outcomes.Refusal.{Refusal}
+use package.Rattle.backward.proofs.Stops.{not_ok}
 
 -- a variable came into scope bound, and the state that says so
 pub record BoundBehind (heap heap' slots slots' : List ℕ) (m m' : Machine) (b : Bindings) (sc : Scope) (node : ℕ) (c : Bindings) : Type 0 where
@@ -164,44 +167,44 @@ module _ {code heap slots : List ℕ} {m : Machine} {b : Bindings} {sc : Scope} 
         behind : {heap₃ slots₃ : List ℕ} {m₃ : Machine} {k : ℕ} → Moves k heap₁ heap₃ slots slots₃ m₁ m₃ → k ≤ 1 → Moves 2 heap heap₃ slots slots₃ m m₃
         behind M le = moves-then 2 (omega arith) moves (moves_from slots₁ (sym as_many) M)
 
-        pub bound-stopped : ¬ (r.stop ≡ 0) → Ran heap₂ slots₂ m₂ r
+        pub bound-stopped : {why : Refusal} → r ≡ Err why → Ran heap₂ slots₂ m₂ r
         bound-stopped d = record {
           ran = record { moves = behind stops.moves (omega arith); follows = stops.follows; answer = stops.answer };
           below = under.below;
-          tells = λ e. absurd (d e);
+          tells = λ _ e. absurd (not_ok d e);
         }
           where
-            stops : RanBackward 0 heap₁ heap₂ slots slots₂ m₁ (scope_view slots sc) (outcome_of r.stop slots₂ m₂ sc)
+            stops : RanBackward 0 heap₁ heap₂ slots slots₂ m₁ (scope_view slots sc) (outcome_of r slots₂ m₂ sc)
                 (bound_at code heap slots m sc t (value_at heap node) (value_at heap part) room)
             stops = under-refused under.ran (λ ys u σ. give σ) (is_stopped d) bound-run
 
-        module _ (e : r.stop ≡ 0) where
+        module _ {bs : Bindings} (e : r ≡ Ok bs) where
           after_it : Held 1 code heap₂ slots₂ m₂ room
           after_it = held-under bound-ready.machine (sym as_many) under
 
           -- a cell for the variable that leaves
-          pub bound-leaves : {st₂ : List ℕ} → length st₂ ≡ state_count → machine_of st₂ ≡ m₂ → CellReady heap₂ st₂ r.state sc.n
+          pub bound-leaves : {st₂ : List ℕ} → length st₂ ≡ state_count → machine_of st₂ ≡ m₂ → CellReady heap₂ st₂ bs sc.n
           bound-leaves full em = cell-ready after_it under e full em (omega arith) sc.n (omega (arith, few))
 
-          pub bound-left : {heap₃ slots₃ : List ℕ} {m₃ : Machine} {c : Bindings} → LeftBehind heap₂ heap₃ slots₂ slots₃ m₂ m₃ r.state sc.n c
-              → Ran heap₃ slots₃ m₃ (record { stop = 0; state = c })
-          bound-left {heap₃} {slots₃} {m₃} K = record {
+          pub bound-left : {heap₃ slots₃ : List ℕ} {m₃ : Machine} {c : Bindings} → LeftBehind heap₂ heap₃ slots₂ slots₃ m₂ m₃ bs sc.n c
+              → Ran heap₃ slots₃ m₃ (Ok c)
+          bound-left {heap₃} {slots₃} {m₃} {c} K = record {
             ran = record { moves = behind done.moves (omega arith); follows = done.follows; answer = done.answer };
             below = λ j l. under.below j l ∙ left_below after_it under e K j;
-            tells = λ _. left-tells after_it under e K (omega arith) (omega arith);
+            tells = λ c' z. let q : c' ≡ c = cc in rw q (left-tells after_it under e K (omega arith) (omega arith));
           }
             where
-              ran : RanUnder 1 heap₁ heap₃ slots slots₃ m₁ (scope_view slots sc) (inner_of heap₃ r.stop slots₃ m₃ sc) run
+              ran : RanUnder 1 heap₁ heap₃ slots slots₃ m₁ (scope_view slots sc) (inner_of heap₃ r slots₃ m₃ sc) run
               ran = under_left after_it under e K
 
-              done : RanBackward 1 heap₁ heap₃ slots slots₃ m₁ (scope_view slots sc) (outcome_of 0 slots₃ m₃ sc)
+              done : RanBackward 1 heap₁ heap₃ slots slots₃ m₁ (scope_view slots sc) (outcome_of (Ok c) slots₃ m₃ sc)
                   (bound_at code heap slots m sc t (value_at heap node) (value_at heap part) room)
               done =
                   under_done ran (λ ys u σ. give σ) (is_done e) bound-run 1 (omega arith)
                   (record {
                     moves = moves_none ran.moves.graph refl refl;
                     follows = λ _. follows_same (ran.follows (is_done e)).bound;
-                    answer = λ ys. meaning_done heap₃ (outcome_of 0 slots₃ m₃ sc) (is_done refl);
+                    answer = λ ys. meaning_done heap₃ (outcome_of (Ok c) slots₃ m₃ sc) refl;
                   }) (ran.follows (is_done e))
 
 ----------------------------------------------------------------
@@ -243,15 +246,15 @@ module _ {code heap st : List ℕ} {b : Bindings} {scope t room : ℕ} (Q : Prep
               (subst (λ (sc : Scope). Gone 0 heap₁ heap₂ (slots_of st₁) (slots_of st₂) (machine_of st₁) (machine_of st₂) sc r
               (run_at code heap₁ (slots_of st₁) (machine_of st₁) sc t (value_at heap₁ node) room)) w R.gone)
 
-          pub entered_stopped : ¬ (r.stop ≡ 0) → RunsBound code heap heap₂ st st₂ scope t part node room r
+          pub entered_stopped : {why : Refusal} → r ≡ Err why → RunsBound code heap heap₂ st st₂ scope t part node room r
           entered_stopped d = record { lengths = R.lengths ∙ E.lengths; gone = bound-stopped Q.prepared Q.few low entered there gone d }
 
-          module _ (e : r.stop ≡ 0) where
-            pub entered_leaves : CellReady heap₂ st₂ r.state (scope_in scope).n
+          module _ {bs : Bindings} (e : r ≡ Ok bs) where
+            pub entered_leaves : CellReady heap₂ st₂ bs (scope_in scope).n
             entered_leaves = bound-leaves Q.prepared Q.few low entered there gone e (R.lengths ∙ E.lengths ∙ Q.full) refl
 
-            pub entered_left : {heap₃ st₃ : List ℕ} {c : Bindings} → Adds heap₂ heap₃ st₂ st₃ r.state unknown (scope_in scope).n c
-                → RunsBound code heap heap₃ st st₃ scope t part node room (record { stop = 0; state = c })
+            pub entered_left : {heap₃ st₃ : List ℕ} {c : Bindings} → Adds heap₂ heap₃ st₂ st₃ bs unknown (scope_in scope).n c
+                → RunsBound code heap heap₃ st st₃ scope t part node room (Ok c)
             entered_left A = record {
               lengths = A.moved.lengths ∙ R.lengths ∙ E.lengths;
               gone = bound-left Q.prepared Q.few low entered there gone e (left_behind A);

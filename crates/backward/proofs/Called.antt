@@ -25,23 +25,30 @@ use package.Rattle.backward.proofs.Stops.{is_done, is_stopped}
 use package.Rattle.backward.proofs.Frames.{older_later, tells_stay, follows_stay, state-stays}
 use package.Rattle.backward.proofs.Gathering.{scope-ready, arguments_done, callee}
 use package.Rattle.backward.proofs.Calling.{call-refused, call-body, call-space, call-node, call-refused_2, call-dynamic, call_done}
-use Rattle.backward.specs.declared.outcomes.Out.{Out}
+use Rattle.std.specs.Prelude.{Result, Ok, Err}
+use package.Rattle.backward.specs.Outcomes.{Out}
+use Rattle.backward.specs.declared.outcomes.Refusal.{Refusal}
+use package.Rattle.backward.proofs.Stops.{not_ok}
+use package.Rattle.backward.specs.Ready.{RanBackward}
+use mathlib.Core.Path.{subst}
 
 module _ {code heap slots : List ℕ} {m : Machine} {b : Bindings} {sc : Scope} {t room : ℕ}
     (P : Prepared 2 1 code heap slots m b sc sc.n t room) {node : ℕ} (low : node < m.top)
-    {k : ℕ} (C : Calls code t 0 k) {heap₁ slots₁ : List ℕ} {m₁ : Machine} {stop : ℕ} (D : Gathers code heap heap₁ slots slots₁ m sc t room 0 k stop m₁) where
+    {k : ℕ} (C : Calls code t 0 k) {heap₁ slots₁ : List ℕ} {m₁ : Machine} {stop : Result (Unit {0}) Refusal} (D : Gathers code heap heap₁ slots slots₁ m sc t room 0 k stop m₁) where
   abbrev Stepped : List ℕ → List ℕ → Machine → Out → Type 0
   Stepped heap' slots' m' r = Gone 2 heap heap' slots slots' m m' sc r (step_at code heap slots m sc t (value_at heap node) room)
 
   -- the ancilla terms were refused
-  pub called-refused : ¬ (stop ≡ 0) → Stepped heap₁ slots₁ m₁ (record { stop = stop; state = b })
+  pub called-refused : {why : Refusal} → stop ≡ Err why → Stepped heap₁ slots₁ m₁ (Err why)
   called-refused d = record {
-    ran = refused_with (call-refused P.ready low C (arguments_done P C D) (is_stopped d)) (is_stopped d) (scope_view slots₁ sc);
+    ran = subst (λ s. RanBackward 2 heap heap₁ slots slots₁ m (scope_view slots sc) (record { status = s; state = m₁; bindings = scope_view slots₁ sc })
+        (step_at code heap slots m sc t (value_at heap node) room))
+        (is_stopped d) (refused_with (call-refused P.ready low C (arguments_done P C D) (is_stopped d)) (is_stopped d) (scope_view slots₁ sc));
     below = λ j l. D.below j (omega arith);
-    tells = λ e. absurd (d e);
+    tells = λ _ e. cc;
   }
 
-  module _ (e : stop ≡ 0) {g u : ℕ} (qg : g ≡ first_in code t) (qu : u ≡ body_in code g) where
+  module _ {done : Unit {0}} (e : stop ≡ Ok done) {g u : ℕ} (qg : g ≡ first_in code t) (qu : u ≡ body_in code g) where
     pub called-space : k < max_variables
     called-space = call-space P.ready low C (arguments_done P C D) (is_done e) qg qu
 
@@ -79,20 +86,20 @@ module _ {code heap slots : List ℕ} {m : Machine} {b : Bindings} {sc : Scope} 
         scope-stays : (j : ℕ) → j < sc.base + sc.n → get_or slots j 0 ≡ get_or slots₂ j 0
         scope-stays j l = D.below j l ∙ here.below j l
 
-        pub called_stops : ¬ (r.stop ≡ 0) → Stepped heap₂ slots₂ m₂ r
+        pub called_stops : {why : Refusal} → r ≡ Err why → Stepped heap₂ slots₂ m₂ r
         called_stops d = record {
           ran = refused_with (call-refused_2 P.ready low C (arguments_done P C D) (is_done e) qg qu here.ran (is_stopped d)) (is_stopped d)
               (scope_view slots₂ sc);
           below = λ j l. scope-stays j (omega arith);
-          tells = λ z. absurd (d z);
+          tells = λ _ z. absurd (not_ok d z);
         }
 
-        module _ (d : r.stop ≡ 0) where
+        module _ {bs : Bindings} (d : r ≡ Ok bs) where
           H : Held 2 code heap₂ slots₂ m₂ room
           H = held-under (held_later P.ready.machine 2 (omega arith) D.moves) refl here
 
-          pub called-leaves : Leavable heap₂ slots₂ r.state sc₁ m₂.top
-          called-leaves = looked H here d k (omega arith) (omega arith) there (here.slot d)
+          pub called-leaves : Leavable heap₂ slots₂ bs sc₁ m₂.top
+          called-leaves = looked H here d k (omega arith) (omega arith) there (here.slot (is_done d))
               (ap (λ (sc : Scope). sc.base) w) (ap (λ (sc : Scope). sc.n) w)
 
           agree : Agree m.top heap heap₂
@@ -118,7 +125,7 @@ module _ {code heap slots : List ℕ} {m : Machine} {b : Bindings} {sc : Scope} 
               space = omega (arith, P.space);
             }
 
-            module _ {x : ℕ} (qx : x ≡ node_or (bound heap₂ r.state sc₁.n)) where
+            module _ {x : ℕ} (qx : x ≡ node_or (bound heap₂ bs sc₁.n)) where
               input_is : x ≡ node_or (found heap₂ (get_or slots₂ (sc.base + sc.n + k) 0))
               input_is = in_slot H here d k (omega arith) (omega arith) (rw w at qx)
 
@@ -138,9 +145,9 @@ module _ {code heap slots : List ℕ} {m : Machine} {b : Bindings} {sc : Scope} 
 -- By the numbers that a run is lent: the body of the function
 
 module _ {code heap st : List ℕ} {b : Bindings} {scope t room : ℕ} (Q : PreparedIn 2 1 code heap st b scope t room) {node : ℕ}
-    (low : node < (machine_of st).top) {k : ℕ} (C : Calls code t 0 k) {heap₁ st₁ : List ℕ} {stop : ℕ}
+    (low : node < (machine_of st).top) {k : ℕ} (C : Calls code t 0 k) {heap₁ st₁ : List ℕ} {stop : Result (Unit {0}) Refusal}
     (D : Gathers code heap heap₁ (slots_of st) (slots_of st₁) (machine_of st) (scope_in scope) t room 0 k stop (machine_of st₁))
-    (e : stop ≡ 0) {g u : ℕ} (qg : g ≡ first_in code t) (qu : u ≡ body_in code g) {end : ℕ} (qe : end ≡ (scope_in scope).base + (scope_in scope).n)
+    {done : Unit {0}} (e : stop ≡ Ok done) {g u : ℕ} (qg : g ≡ first_in code t) (qu : u ≡ body_in code g) {end : ℕ} (qe : end ≡ (scope_in scope).base + (scope_in scope).n)
     {callee : ℕ} (w : scope_in callee ≡ record { base = end; q = k; n = k }) (l : length st₁ ≡ length st) {args : Bindings} (none_bound : args.head ≡ 0) where
   abbrev called-inner : PreparedUnder code heap₁ st₁ args callee u (room - 1)
   called-inner = record { full = l ∙ Q.full; prepared = called-prepared Q.prepared low C D e qg qu qe w none_bound }

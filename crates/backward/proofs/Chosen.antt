@@ -26,7 +26,7 @@ use package.Rattle.scopes.proofs.Views.{view_state}
 use package.Rattle.yields.proofs.Ancillae.{length-ancillae}
 use package.Rattle.forward.specs.Outcomes.{Out as ForwardOut}
 use package.Rattle.forward.specs.Ready.{Ready as ForwardReady, RanForward as ForwardRan, run_of as forwardRun}
-use package.Rattle.forward.specs.declared.outcomes.Status.TheVariants.{Value, Refused as ForwardRefused}
+use Rattle.std.specs.Prelude.{Ok, Err}
 use package.Rattle.forward.specs.declared.outcomes.Refusal.{Refusal as Carried}
 use package.Rattle.forward.proofs.Runs.{answered, refused}
 use package.Rattle.forward.proofs.Binds.{case_first, node-no-sum}
@@ -42,7 +42,8 @@ use package.Rattle.backward.proofs.Stops.{is_done}
 use package.Rattle.backward.proofs.Steps.{stepped}
 use Rattle.backward.specs.declared.outcomes.Refusal.{Refusal}
 use Rattle.backward.specs.declared.outcomes.Refusal.TheVariants.{Stuck}
-use Rattle.backward.specs.declared.outcomes.Out.{Out}
+use Rattle.std.specs.Prelude.{Ok, Err}
+use package.Rattle.backward.specs.Outcomes.{Out}
 
 module _ {code heap st : List ℕ} {b : Bindings} {scope t room node : ℕ}
     (pre : PreparedIn 2 1 code heap st b scope t room × ((node < (machine_of st).top) × CaseThat true code scope t)) where
@@ -133,28 +134,28 @@ module _ {code heap st : List ℕ} {b : Bindings} {scope t room node : ℕ}
       step-d ys = step-chosen ys ∙ ap (λ u. after (forwardRun code heap slots m sc u (room - 1) ys) (next ys)) (sym qu)
 
       -- the case is refused with what was left
-      stops : {why : Refusal} {r : Out} → status_of r.stop ≡ Refused why → ((ys : List TypeEntry) → step ys ≡ refusal_of why) → Stepped heap₁ slots₁ m₁ r
+      stops : {why : Refusal} {r : Out} → status_of r ≡ Refused why → ((ys : List TypeEntry) → step ys ≡ refusal_of why) → Stepped heap₁ slots₁ m₁ r
       stops {r = r} c e = record {
         ran = record {
           moves = moves-slack 2 moves (omega arith);
           follows = λ q. absurd (not_done c q);
-          answer = λ ys. meaning-refused heap₁ (outcome_of r.stop slots₁ m₁ sc) c ∙ sym (e ys);
+          answer = λ ys. meaning-refused heap₁ (outcome_of r slots₁ m₁ sc) c ∙ sym (e ys);
         };
         below = same-below;
-        tells = λ z. absurd (not_done c (is_done z));
+        tells = λ _ z. absurd (not_done c (is_done z));
       }
 
       -- the scrutinee was refused, and so is the case
-      pub chosen-stopped : {w : Carried} → r₁.status ≡ ForwardRefused w → {r : Out} → status_of r.stop ≡ Refused (carried w) → Stepped heap₁ slots₁ m₁ r
+      pub chosen-stopped : {w : Carried} → r₁.status ≡ Err w → {r : Out} → status_of r ≡ Refused (carried w) → Stepped heap₁ slots₁ m₁ r
       chosen-stopped {w} s c = stops c
           (λ ys. step-d ys ∙ ap (λ x. after x (next ys)) (refused d s ys ∙ carried-means w) ∙ refusal-after (carried w) (next ys))
 
-      module _ {x : ℕ} (s : r₁.status ≡ Value x) where
+      module _ {x : ℕ} (s : r₁.status ≡ Ok x) where
         -- the case goes on with the scrutinee's value
         step_value : (ys : List TypeEntry) → step ys ≡ next ys (value_at heap₁ x) m₁.fuel
         step_value ys = step-d ys ∙ via (next ys) (answered d s ys) refl
 
-        pub chosen-stuck : ¬ (nodeKind heap₁ x ≡ 1) → ¬ (nodeKind heap₁ x ≡ 2) → {r : Out} → status_of r.stop ≡ Refused Stuck → Stepped heap₁ slots₁ m₁ r
+        pub chosen-stuck : ¬ (nodeKind heap₁ x ≡ 1) → ¬ (nodeKind heap₁ x ≡ 2) → {r : Out} → status_of r ≡ Refused Stuck → Stepped heap₁ slots₁ m₁ r
         unfolding refusal_of
         chosen-stuck n n' c = stops c
             (λ ys. step_value ys ∙ node-no-sum heap₁ x m₁.fuel (branch ys (second_in code t)) (branch ys (third_in code t)) n n')

@@ -2,11 +2,9 @@
 use Prim.Native.Nat.{ℕ, zero, suc, ◌+◌, ◌*◌, ◌≤◌, ◌<◌}
 use native.Mathlib.Omega.{arith}
 use mathlib.Core.Path.{◌≡◌, refl, sym, ap, ap₂, ◌∙◌}
-use mathlib.Core.Bool.{Bool, true, false}
+use mathlib.Core.Bool.{Bool}
 use mathlib.Core.List.{List, ◌∷◌}
 use lib.ListN.{length, get_or}
-use lib.Dec.{eqb}
-use borrow.Author.Tests.{eqb-true, eqb-false}
 use package.Rattle.rules.specs.Limits.{fits, max_variables, max_terms}
 use package.Rattle.rules.specs.Run.{Res, ok}
 use package.Rattle.rules.specs.Machine.{State, backward}
@@ -15,18 +13,19 @@ use package.Rattle.calls.specs.Entries.{TypeEntry}
 use package.Rattle.decoded.specs.Rows.{tree_in, program_in}
 use package.Rattle.valuegraph.specs.Nodes.{value_at, Agree}
 use package.Rattle.scopes.specs.Slots.{Slots, Machine, Scope, machine_of, scope_in, slots_of, slots_per_height}
-use package.Rattle.scopes.specs.Bindings.{slots_from, view_of, state_of, state_in, Bound, Tells}
+use package.Rattle.scopes.specs.Bindings.{slots_from, view_of, state_of, Bound, Tells}
 use package.Rattle.scopes.specs.declared.bindings.Bindings.{Bindings}
 use package.Rattle.scopes.proofs.Marks.{slot_later}
 use package.Rattle.scopes.proofs.Scopes.{state_same}
 use package.Rattle.scopes.proofs.Views.{view_at, view_bound, view_state, view_told, tells_later}
 use package.Rattle.yields.specs.Yields.{ancillae_at, MayYield}
-use package.Rattle.backward.specs.Outcomes.{Status, Refused, outcome_of, status_of, scope_view, meaning, told_of}
+use package.Rattle.backward.specs.Outcomes.{Refused, outcome_of, status_of, scope_view, meaning, told_of}
 use package.Rattle.backward.specs.Ready.{Ready, Follows, Moves, RanBackward, Prepared, Gone, GoneUnder, PreparedIn, GoneIn, RunsBack, ancillae_of, run_at}
 use package.Rattle.backward.proofs.Runs.{meaning_done, meaning-refused, not_done}
-use package.Rattle.backward.proofs.Stops.{is_done, is_stopped}
+use package.Rattle.backward.proofs.Stops.{is_done, not_ok}
 use Rattle.backward.specs.declared.outcomes.Refusal.{Refusal}
-use Rattle.backward.specs.declared.outcomes.Out.{Out}
+use Rattle.std.specs.Prelude.{Ok, Err}
+use package.Rattle.backward.specs.Outcomes.{Out}
 
 ----------------------------------------------------------------
 -- Ancillae
@@ -105,41 +104,30 @@ module _ {k h : ℕ} {code heap slots : List ℕ} {m : Machine} {b : Bindings} {
 
 -- a run that wrote no slot, and was refused
 pub gone-refused : {k : ℕ} {heap heap' slots : List ℕ} {m m' : Machine} {sc : Scope} {r : Out} {w : Refusal} {res : List TypeEntry → Res State}
-    → status_of r.stop ≡ Refused w
-    → RanBackward k heap heap' slots slots m (scope_view slots sc) (outcome_of r.stop slots m' sc) res → Gone k heap heap' slots slots m m' sc r res
-gone-refused {r = r} w R = record { ran = R; below = λ j l. refl; tells = λ e. absurd (not_done w (is_done e)) }
+    → status_of r ≡ Refused w
+    → RanBackward k heap heap' slots slots m (scope_view slots sc) (outcome_of r slots m' sc) res → Gone k heap heap' slots slots m m' sc r res
+gone-refused {r = r} w R = record { ran = R; below = λ j l. refl; tells = λ _ e. absurd (not_done w (is_done e)) }
 
 -- a run that was stopped
 pub gone-stopped : {k k' : ℕ} {heap heap₁ slots slots₁ : List ℕ} {m m₁ : Machine} {sc : Scope} {r : Out} {res res₁ : List TypeEntry → Res State}
     → Gone k heap heap₁ slots slots₁ m m₁ sc r res₁
-    → ¬ (r.stop ≡ 0) → RanBackward k' heap heap₁ slots slots₁ m (scope_view slots sc) (outcome_of r.stop slots₁ m₁ sc) res
+    → {why : Refusal} → r ≡ Err why → RanBackward k' heap heap₁ slots slots₁ m (scope_view slots sc) (outcome_of r slots₁ m₁ sc) res
     → Gone k' heap heap₁ slots slots₁ m m₁ sc r res
-gone-stopped G d R = record { ran = R; below = G.below; tells = λ e. absurd (d e) }
+gone-stopped G d R = record { ran = R; below = G.below; tells = λ _ e. absurd (not_ok d e) }
 
 -- a run after which nothing is left to do but to say what it gave
 pub gone-then : {k k' : ℕ} {heap heap₁ heap₂ slots slots₁ slots₂ : List ℕ} {m m₁ m₂ : Machine} {sc : Scope} {r : Out} {res res₁ : List TypeEntry → Res State}
     → ((j : ℕ) → j < sc.base → get_or slots j 0 ≡ get_or slots₁ j 0) → Gone k' heap₁ heap₂ slots₁ slots₂ m₁ m₂ sc r res₁
-    → RanBackward k heap heap₂ slots slots₂ m (scope_view slots sc) (outcome_of r.stop slots₂ m₂ sc) res → Gone k heap heap₂ slots slots₂ m m₂ sc r res
+    → RanBackward k heap heap₂ slots slots₂ m (scope_view slots sc) (outcome_of r slots₂ m₂ sc) res → Gone k heap heap₂ slots slots₂ m m₂ sc r res
 gone-then same G R = record { ran = R; below = λ j l. same j l ∙ G.below j l; tells = G.tells }
 
 -- the state that is handed back, by value and by the slots
-handed_on : (heap slots : List ℕ) (m : Machine) (sc : Scope) (r : Out) → (r.stop ≡ 0 → Tells heap slots r.state sc.base sc.q sc.n m.top)
-    → sc.n ≤ max_variables → told_of (state_in heap slots r.state sc) m.fuel (status_of r.stop) ≡ meaning heap (outcome_of r.stop slots m sc)
+handed_on : (heap slots : List ℕ) (m : Machine) (sc : Scope) (r : Out) → ((b : Bindings) → r ≡ Ok b → Tells heap slots b sc.base sc.q sc.n m.top)
+    → sc.n ≤ max_variables → told_of heap slots sc m.fuel r ≡ meaning heap (outcome_of r slots m sc)
 unfolding told_of
-handed_on heap slots m sc r T few = go (eqb r.stop 0) refl
-  where
-    told : Status → Res State
-    told s = told_of (state_in heap slots r.state sc) m.fuel s
-
-    go : (y : Bool) → eqb r.stop 0 ≡ y
-        → told_of (state_in heap slots r.state sc) m.fuel (status_of r.stop) ≡ meaning heap (outcome_of r.stop slots m sc)
-    go true q =
-        let e = eqb-true r.stop 0 q in
-        ap told (is_done e) ∙ ap (λ σ. ok σ m.fuel) (view_told heap slots r.state sc m.top (T e) few)
-        ∙ sym (meaning_done heap (outcome_of r.stop slots m sc) (is_done e))
-    go false q =
-        let s = is_stopped (eqb-false r.stop 0 q) in
-        ap told s ∙ sym (meaning-refused heap (outcome_of r.stop slots m sc) s)
+handed_on heap slots m sc (Ok b) T few =
+    ap (λ σ. ok σ m.fuel) (view_told heap slots b sc m.top (T b refl) few) ∙ sym (meaning_done heap (outcome_of (Ok b) slots m sc) refl)
+handed_on heap slots m sc (Err why) T few = sym (meaning-refused heap (outcome_of {A = Bindings} (Err why) slots m sc) refl)
 
 -- A run, by the state by value that it was begun with.
 pub runs-back : {code heap heap' st st' : List ℕ} {b : Bindings} {scope t room node k h : ℕ} → PreparedIn k h code heap st b scope t room → {r : Out}
@@ -161,6 +149,6 @@ runs-back {code} {heap} {heap'} {st} {st'} {b} {scope} {t} {room} {node} Q {r} G
 
 -- a run under one variable more, which was stopped
 pub stops-under : {heap heap₁ slots slots₁ : List ℕ} {m m₁ : Machine} {sc : Scope} {r : Out} {res : List TypeEntry → Res State}
-    → GoneUnder heap heap₁ slots slots₁ m m₁ sc r res → ¬ (r.stop ≡ 0) → {k : ℕ} {res' : List TypeEntry → Res State}
-    → RanBackward k heap heap₁ slots slots₁ m (scope_view slots sc) (outcome_of r.stop slots₁ m₁ sc) res' → Gone k heap heap₁ slots slots₁ m m₁ sc r res'
-stops-under G d R = record { ran = R; below = G.below; tells = λ e. absurd (d e) }
+    → GoneUnder heap heap₁ slots slots₁ m m₁ sc r res → {why : Refusal} → r ≡ Err why → {k : ℕ} {res' : List TypeEntry → Res State}
+    → RanBackward k heap heap₁ slots slots₁ m (scope_view slots sc) (outcome_of r slots₁ m₁ sc) res' → Gone k heap heap₁ slots slots₁ m m₁ sc r res'
+stops-under G d R = record { ran = R; below = G.below; tells = λ _ e. absurd (not_ok d e) }

@@ -25,7 +25,7 @@ use package.Rattle.scopes.proofs.Views.{view_at, view_bound, view_state}
 use package.Rattle.yields.specs.Yields.{ancillae_at}
 use package.Rattle.forward.specs.Outcomes.{Out as ForwardOut}
 use package.Rattle.forward.specs.Ready.{Ready as ForwardReady, RanForward as ForwardRan, Calls, values_at, run_of as forwardRun, ancillae_of as forwardAncillae, state_of as forwardState}
-use package.Rattle.forward.specs.declared.outcomes.Status.TheVariants.{Value, Refused as ForwardRefused}
+use Rattle.std.specs.Prelude.{Ok, Err}
 use package.Rattle.forward.specs.declared.outcomes.Refusal.{Refusal as Carried}
 use package.Rattle.forward.proofs.Runs.{answered, refused, ancillae_later as forward-ancillae, state_later as forward-state}
 use package.Rattle.forward.proofs.Placing.{place-room, place-less, few-count, values_same, values_none, values-front}
@@ -36,6 +36,7 @@ use package.Rattle.backward.specs.Calls.{Collected, gathered_of, listed_of, gath
 use package.Rattle.backward.proofs.Runs.{refusal-after, carried-means, not_done, moves_none, moves-then}
 use package.Rattle.backward.proofs.Frames.{view_ancillae, few-ancillae}
 use Rattle.backward.specs.declared.outcomes.Refusal.{Refusal}
+use Rattle.std.specs.Prelude.{Result}
 
 ----------------------------------------------------------------
 -- Terms one after the other
@@ -110,7 +111,7 @@ module _ {code heap slots : List ℕ} {st : Machine} {sc : Scope} {t room : ℕ}
   go ys = forward fits (program_in code ys) (room - 1) (forwardAncillae heap slots sc) (forwardState heap slots sc)
 
   -- there are no more
-  pub gather_end : k ≡ count → {s : ℕ} → status_of s ≡ Done → Gathers code heap heap slots slots st sc t room k count s st
+  pub gather_end : k ≡ count → {s : Result (Unit {0}) Refusal} → status_of s ≡ Done → Gathers code heap heap slots slots st sc t room k count s st
   gather_end e {s} d = record {
     moves = moves_none rd.graph refl refl;
     below = λ j h. refl;
@@ -126,7 +127,7 @@ module _ {code heap slots : List ℕ} {st : Machine} {sc : Scope} {t room : ℕ}
     at_place : (ys : List TypeEntry) → go ys (tree_in code ys (argument_in code t k)) st.fuel ≡ forwardRun code heap slots st sc b (room - 1) ys
     at_place ys = ap (λ b. forwardRun code heap slots st sc b (room - 1) ys) (sym q)
 
-    pub gather_refused : {w : Carried} → r₁.status ≡ ForwardRefused w → {s : ℕ} → status_of s ≡ Refused (carried w)
+    pub gather_refused : {w : Carried} → r₁.status ≡ Err w → {s : Result (Unit {0}) Refusal} → status_of s ≡ Refused (carried w)
         → Gathers code heap heap₁ slots slots₁ st sc t room k count s r₁.state
     gather_refused {w} e {s} c = record {
       moves = moves-forward d;
@@ -139,7 +140,7 @@ module _ {code heap slots : List ℕ} {st : Machine} {sc : Scope} {t room : ℕ}
     }
 
     -- an argument, and the others behind it
-    module _ {x : ℕ} (e : r₁.status ≡ Value x) {heap₂ slots₂ : List ℕ} {s₂ : ℕ} {st₂ : Machine}
+    module _ {x : ℕ} (e : r₁.status ≡ Ok x) {heap₂ slots₂ : List ℕ} {s₂ : Result (Unit {0}) Refusal} {st₂ : Machine}
         (D : Gathers code heap₁ heap₂ slots₁ slots₂ r₁.state sc t room (k + 1) count s₂ st₂)
         (slots₃ : List ℕ) (e₃ : slots₃ ≡ set slots₂ (m + k) x) where
       less : k < count
@@ -199,7 +200,7 @@ module _ {code heap slots : List ℕ} {st : Machine} {sc : Scope} {t room : ℕ}
           slot n j low high (no h) = rw (let z : m + j ≡ m + k = omega arith in z, here) (omega (arith, d.node x e, D.moves.grows))
 
     -- the slot and the machine as the code leaves them
-    pub gather_placed : {x : ℕ} → r₁.status ≡ Value x → {heap₂ slots₂ : List ℕ} {s₂ : ℕ} {st₂ : Machine}
+    pub gather_placed : {x : ℕ} → r₁.status ≡ Ok x → {heap₂ slots₂ : List ℕ} {s₂ : Result (Unit {0}) Refusal} {st₂ : Machine}
         → Gathers code heap₁ heap₂ slots₁ slots₂ r₁.state sc t room (k + 1) count s₂ st₂
         → {at : ℕ} → at ≡ m + k → {slots₃ : List ℕ} → slots₃ ≡ set slots₂ at x → {st₃ : Machine} → st₃ ≡ st₂
         → Gathers code heap heap₂ slots slots₃ st sc t room k count s₂ st₃
@@ -232,7 +233,7 @@ module _ {code heap slots : List ℕ} {m : Machine} {b : Bindings} {sc : Scope} 
           rw (z, ← view_at slots sc.base (j - sc.base) (omega (arith, P.ready.binds.bound.few)))
           (P.ready.binds.bound.held.held (j - sc.base) (omega arith))
 
-  module _ {count : ℕ} (C : Calls code t 0 count) {heap₁ slots₁ : List ℕ} {m₁ : Machine} {s : ℕ}
+  module _ {count : ℕ} (C : Calls code t 0 count) {heap₁ slots₁ : List ℕ} {m₁ : Machine} {s : Result (Unit {0}) Refusal}
       (D : Gathers code heap heap₁ slots slots₁ m sc t room 0 count s m₁) where
     -- where the function that is called has its scope
     abbrev pub callee : Scope

@@ -17,21 +17,21 @@ use package.Rattle.valuegraph.specs.Nodes.{kind_at, of_kind, value_within, value
 use package.Rattle.valuegraph.proofs.Heaps.{value-unit, value-kept}
 use package.Rattle.scopes.specs.Slots.{unknown, found, node_or, meaning as slotMeaning, Slot, Slots, Machine, Scope}
 use package.Rattle.scopes.specs.Cells.{Linked}
-use package.Rattle.scopes.specs.declared.slots.Found.TheVariants.{Node, Unknown}
-use package.Rattle.scopes.specs.Bindings.{View, AfterLeaving, slots_from, view_of, state_of, Bound, Opens, Meets, LeavesScope, Meetable, MeetsAt}
+use Rattle.std.specs.Prelude.{Some, None}
+use package.Rattle.scopes.specs.Bindings.{View, AfterLeaving, slots_from, view_of, state_of, Bound, Opens, Meets, LeavesScope, Meetable}
 use package.Rattle.scopes.specs.declared.bindings.Bindings.{Bindings}
-use package.Rattle.scopes.specs.declared.bindings.Met.{Met}
 use package.Rattle.scopes.proofs.Marks.{found-mark, found-node, found_below, node_or_lem, node_none}
 use package.Rattle.scopes.proofs.Scopes.{slots_bind}
 use package.Rattle.scopes.proofs.Bound.{meet-bound, leaves-state}
 use package.Rattle.scopes.proofs.Views.{view_at, new-found}
 use package.Rattle.forward.specs.Ready.{Graph}
 use package.Rattle.forward.proofs.Making.{graph-grown}
-use package.Rattle.backward.specs.Outcomes.{Status, Done, Refused, status_of, refusal_of, too_long, against, mismatch}
-use package.Rattle.backward.specs.Ready.{Binds, Follows, RanBackward, Stays, Goes, Variable, UnitMet}
+use package.Rattle.backward.specs.Outcomes.{Status, Done, Refused, refusal_of, too_long, against, mismatch}
+use package.Rattle.backward.specs.Ready.{Binds, Follows, RanBackward, Stays, Goes}
 use package.Rattle.backward.proofs.Runs.{meaning_done, meaning-refused, not_done, bound_later, follows_same, state_later}
-use Rattle.backward.specs.declared.outcomes.Out.{Out}
 use Rattle.backward.specs.declared.outcomes.Refusal.TheVariants.{Fuel, Height, Long, NoInput, Stuck}
+use package.Rattle.valuegraph.specs.Nodes.{kind_named}
+use package.Rattle.valuegraph.specs.declared.kinds.Kind.TheVariants.{Unit}
 
 ----------------------------------------------------------------
 -- Refusals
@@ -85,20 +85,6 @@ choice_right y e q = rw e q
 
 pub meetable_same : {heap st : List ℕ} {b : Bindings} {sc : Scope} {i i' : ℕ} → i ≡ i' → Meetable heap st b sc i' → Meetable heap st b sc i
 meetable_same q M = rw q M
-
--- what the code met, as the outcome says it
-met_as : {heap heap' st st' : List ℕ} {b : Bindings} {sc : Scope} {i node : ℕ} {r : Met} → MeetsAt heap heap' st st' b sc i node r → (agrees : Bool)
-    → agrees ≡ r.agrees → MeetsAt heap heap' st st' b sc i node (record { agrees = agrees; state = r.state })
-met_as M agrees e = rw e M
-
-module _ {heap heap' st st' : List ℕ} {b : Bindings} {sc : Scope} {i i' node : ℕ} {r : Met} (M : MeetsAt heap heap' st st' b sc i node r)
-    (q : i ≡ i') (t : ℕ) where
-  pub agrees-out : r.agrees ≡ true → Variable heap heap' st st' b sc i' node t (record { stop = 0; state = r.state })
-  agrees-out e = rw (← q) (record { met = met_as M (eqb 0 0) (eq-eqb 0 0 refl ∙ sym e); differs = λ n. absurd (n refl) })
-
-  pub differs-out : r.agrees ≡ false → status_of (t + 1) ≡ Refused (NoInput t)
-      → Variable heap heap' st st' b sc i' node t (record { stop = t + 1; state = r.state })
-  differs-out e w = rw (← q) (record { met = met_as M (eqb (t + 1) 0) (ne_eqb (t + 1) 0 (λ z. omega arith) ∙ sym e); differs = λ _. w })
 
 -- meeting keeps what is known
 pub meets_follows : (heap : List ℕ) (b : View) (i node x top : ℕ) (agrees : Bool) (r : View) → Meets heap b i node x agrees r → Bound heap b top → i < b.len
@@ -188,6 +174,13 @@ module _ {heap heap' : List ℕ} (slots slots' : List ℕ) (st : Machine) {b : V
 ----------------------------------------------------------------
 -- The unit
 
+pub unit_named : (k : ℕ) → kind_named k ≡ Unit → k ≡ 0
+unit_named zero e = refl
+unit_named (suc zero) e = cc
+unit_named (suc (suc zero)) e = cc
+unit_named (suc (suc (suc zero))) e = cc
+unit_named (suc (suc (suc (suc k)))) e = cc
+
 no-unit : {A : Type 0} (n : ℕ) (v w : Val) (m : Run A) (fuel : ℕ) → ¬ (n ≡ 0) → on_unit (of_kind n v w) m fuel ≡ stuck
 unfolding on_unit of_kind
 no-unit zero v w m fuel d = absurd (d refl)
@@ -217,13 +210,6 @@ module _ {heap : List ℕ} (st : Machine) (G : Graph heap st.top) {b : View} (B 
         ∙ sym (no-unit (kind_at heap node) _ _ (give (state_of heap b)) st.fuel n);
   }
 
-pub unit_there : {heap : List ℕ} (b : Bindings) (node : ℕ) → kind_at heap node ≡ 0 → UnitMet heap b node (record { stop = 0; state = b })
-unit_there b node e = record { met = λ _. refl; differs = λ n. absurd (n e); state = refl }
-
-pub unit_missing : {heap : List ℕ} (b : Bindings) (node : ℕ) {r : Out} → ¬ (kind_at heap node ≡ 0) → status_of r.stop ≡ Refused Stuck → r.state ≡ b
-    → UnitMet heap b node r
-unit_missing b node n e s = record { met = λ k. absurd (n k); differs = λ _. e; state = s }
-
 ----------------------------------------------------------------
 -- A variable comes into scope, not known, and leaves it
 
@@ -242,8 +228,8 @@ module _ {heap : List ℕ} {b : View} {r : AfterLeaving} (L : Goes heap b r) {to
   newest = get_or b.slots (b.len - 1) 0
 
   -- by whether it is known
-  by_newest : {P : Type 0} → top ≤ unknown → (found heap newest ≡ Unknown → r.newest ≡ 0 → P)
-      → ((node : ℕ) → node < top → found heap newest ≡ Node node → r.newest ≡ node → P) → P
+  by_newest : {P : Type 0} → top ≤ unknown → (found heap newest ≡ None → r.newest ≡ 0 → P)
+      → ((node : ℕ) → node < top → found heap newest ≡ Some node → r.newest ≡ node → P) → P
   by_newest {P} small none-it node-it = go (eqb newest unknown) refl
     where
       go : (e : Bool) → eqb (get_or b.slots (b.len - 1) 0) unknown ≡ e → P

@@ -22,7 +22,8 @@ use package.Rattle.backward.specs.Outcomes.{Done, status_of, inner_of, scope_vie
 use package.Rattle.backward.specs.Ready.{Held, Moves, RanUnder, GoneUnder, Leavable}
 use package.Rattle.backward.proofs.Runs.{left_done, follows_later, state_later, moves-then, moves_from, held_later, small_top}
 use package.Rattle.backward.proofs.Stops.{is_done}
-use Rattle.backward.specs.declared.outcomes.Out.{Out}
+use Rattle.std.specs.Prelude.{Ok}
+use package.Rattle.backward.specs.Outcomes.{Out}
 
 ----------------------------------------------------------------
 -- A cell more
@@ -39,7 +40,7 @@ cell-moves G C = record {
 }
 
 -- a run under one variable more, and then a cell
-module _ {heap heap₁ heap₂ slots : List ℕ} (slots₁ : List ℕ) {st : Machine} (m₁ : Machine) {b : View} (sc : Scope) (s : ℕ) {res : List TypeEntry → Res State} {x i h : ℕ}
+module _ {heap heap₁ heap₂ slots : List ℕ} (slots₁ : List ℕ) {st : Machine} (m₁ : Machine) {b : View} (sc : Scope) (s : Out) {res : List TypeEntry → Res State} {x i h : ℕ}
     (d : RanUnder 0 heap heap₁ slots slots₁ st b (inner_of heap₁ s slots₁ m₁ sc) res) (done : status_of s ≡ Done)
     (S : Slot heap₁ (get_or slots₁ (sc.base + sc.n) 0) m₁.top) (small : m₁.top ≤ unknown) (C : Linked heap₁ heap₂ m₁.top x i h) where
   newest_later : node_or (found heap₁ (get_or slots₁ (sc.base + sc.n) 0)) ≡ node_or (found heap₂ (get_or slots₁ (sc.base + sc.n) 0))
@@ -80,23 +81,23 @@ pub held-under : {k : ℕ} {code heap slots : List ℕ} {m : Machine} {room : �
 held-under {k = k} H from G = held_later H k (omega arith) (moves_from _ from G.ran.moves)
 
 module _ {k : ℕ} {code heap₁ slots₁ : List ℕ} {m₁ : Machine} {room : ℕ} (H : Held k code heap₁ slots₁ m₁ room) {heap slots₀ : List ℕ} {m : Machine}
-    {sc₁ : Scope} {r : Out} {res : List TypeEntry → Res State} (G : GoneUnder heap heap₁ slots₀ slots₁ m m₁ sc₁ r res) (e : r.stop ≡ 0) where
+    {sc₁ : Scope} {r : Out} {res : List TypeEntry → Res State} (G : GoneUnder heap heap₁ slots₀ slots₁ m m₁ sc₁ r res) {bs : Bindings} (e : r ≡ Ok bs) where
   -- a variable of the inner scope can be looked up
   pub looked : (i : ℕ) → sc₁.q ≤ i → i ≤ sc₁.n → sc₁.base + i < slot_count → Slot heap₁ (get_or slots₁ (sc₁.base + i) 0) m₁.top → {sc₂ : Scope}
-      → sc₂.base ≡ sc₁.base → sc₂.n ≡ i → Leavable heap₁ slots₁ r.state sc₂ m₁.top
+      → sc₂.base ≡ sc₁.base → sc₂.n ≡ i → Leavable heap₁ slots₁ bs sc₂ m₁.top
   looked i q l there S eb en = rw (eb, en) (record {
     there = there;
-    looks = record { graph = G.ran.moves.graph.right; slot = S; small = small_top H; within = (G.tells e).within };
-    told = told-dynamic (G.tells e) i q (omega arith) ∙ ap (found heap₁) ((G.tells e).index i q (omega arith));
+    looks = record { graph = G.ran.moves.graph.right; slot = S; small = small_top H; within = (G.tells _ e).within };
+    told = told-dynamic (G.tells _ e) i q (omega arith) ∙ ap (found heap₁) ((G.tells _ e).index i q (omega arith));
   })
 
   -- the node that the state binds it to is the slot's
-  pub in_slot : (i : ℕ) → sc₁.q ≤ i → i ≤ sc₁.n → {x : ℕ} → x ≡ node_or (bound heap₁ r.state i)
+  pub in_slot : (i : ℕ) → sc₁.q ≤ i → i ≤ sc₁.n → {x : ℕ} → x ≡ node_or (bound heap₁ bs i)
       → x ≡ node_or (found heap₁ (get_or slots₁ (sc₁.base + i) 0))
-  in_slot i q l e' = e' ∙ ap (λ s. node_or (found heap₁ s)) (sym ((G.tells e).index i q (omega arith)))
+  in_slot i q l e' = e' ∙ ap (λ s. node_or (found heap₁ s)) (sym ((G.tells _ e).index i q (omega arith)))
 
   -- a cell can be made
-  pub cell-ready : {st₁ : List ℕ} → length st₁ ≡ state_count → machine_of st₁ ≡ m₁ → 0 < k → (n : ℕ) → n ≤ max_variables → CellReady heap₁ st₁ r.state n
+  pub cell-ready : {st₁ : List ℕ} → length st₁ ≡ state_count → machine_of st₁ ≡ m₁ → 0 < k → (n : ℕ) → n ≤ max_variables → CellReady heap₁ st₁ bs n
   cell-ready {st₁} full em some n few =
       let top_is : (machine_of st₁).top ≡ m₁.top = ap (λ (m : Machine). m.top) em in
       record {
@@ -104,14 +105,14 @@ module _ {k : ℕ} {code heap₁ slots₁ : List ℕ} {m₁ : Machine} {room : �
         graph = subst (Heap heap₁) (sym top_is) G.ran.moves.graph.right;
         room = omega (arith, top_is, H.nodes);
         small = omega (arith, top_is, H.small);
-        within = omega (arith, top_is, (G.tells e).within);
+        within = omega (arith, top_is, (G.tells _ e).within);
         few = few;
       }
 
-  module _ {heap₂ slots₂ : List ℕ} {m₂ : Machine} {c : Bindings} {n : ℕ} (K : LeftBehind heap₁ heap₂ slots₁ slots₂ m₁ m₂ r.state n c) where
+  module _ {heap₂ slots₂ : List ℕ} {m₂ : Machine} {c : Bindings} {n : ℕ} (K : LeftBehind heap₁ heap₂ slots₁ slots₂ m₁ m₂ bs n c) where
     -- the run, and the variable that has left
-    pub under_left : RanUnder 1 heap heap₂ slots₀ slots₂ m (scope_view slots₀ sc₁) (inner_of heap₂ r.stop slots₂ m₂ sc₁) res
-    under_left = rw (K.slots_are, K.machine_is) (under_later slots₁ m₁ sc₁ r.stop G.ran (is_done e) (G.slot e) (small_top H) K.linked)
+    pub under_left : RanUnder 1 heap heap₂ slots₀ slots₂ m (scope_view slots₀ sc₁) (inner_of heap₂ r slots₂ m₂ sc₁) res
+    under_left = rw (K.slots_are, K.machine_is) (under_later slots₁ m₁ sc₁ r G.ran (is_done e) (G.slot (is_done e)) (small_top H) K.linked)
 
     -- the node of a variable, as it was
     pub left-node : (i : ℕ) {x : ℕ} → Slot heap₁ (get_or slots₁ i 0) m₁.top → x ≡ node_or (found heap₁ (get_or slots₁ i 0))
@@ -121,7 +122,7 @@ module _ {k : ℕ} {code heap₁ slots₁ : List ℕ} {m₁ : Machine} {room : �
 
     -- the index of the state that is left
     pub left-tells : 0 < k → n ≤ sc₁.n + 1 → Tells heap₂ slots₂ c sc₁.base sc₁.q n m₂.top
-    left-tells some le = rw (K.slots_are, K.machine_is) (tells-left (G.tells e) le K.linked (omega (arith, H.small)) K.head)
+    left-tells some le = rw (K.slots_are, K.machine_is) (tells-left (G.tells _ e) le K.linked (omega (arith, H.small)) K.head)
 
     -- slots that were not written
     pub left_below : (j : ℕ) → get_or slots₁ j 0 ≡ get_or slots₂ j 0

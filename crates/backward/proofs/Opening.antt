@@ -2,12 +2,9 @@
 use Prim.Native.Nat.{ℕ, ◌+◌, ◌*◌, ◌≤◌, ◌<◌}
 use native.Mathlib.Omega.{arith}
 use mathlib.Core.Path.{◌≡◌, refl, sym, ◌∙◌}
-use mathlib.Core.Bool.{Bool, true, false}
 use mathlib.Core.List.{List}
 use lib.ListN.{length, get_or, set, length-set}
 use lib.Seq.{get_or-set_other}
-use lib.Dec.{eqb}
-use borrow.Author.Tests.{eqb-true, eqb-false}
 use package.Rattle.rules.specs.Limits.{max_variables}
 use package.Rattle.rules.specs.Run.{Res}
 use package.Rattle.rules.specs.Machine.{State}
@@ -19,15 +16,15 @@ use package.Rattle.scopes.specs.Bindings.{Opens}
 use package.Rattle.scopes.specs.declared.bindings.Bindings.{Bindings}
 use package.Rattle.scopes.proofs.Views.{view_at, view_full, view_opens, tells-opened}
 use package.Rattle.forward.proofs.Binds.{opened as wider}
-use package.Rattle.backward.specs.Outcomes.{outcome_of, scope_view, inner_of}
-use package.Rattle.backward.specs.Ready.{Ready, RanBackward, Prepared, Gone, GoneUnder, RanUnder, run_at, under_at}
+use package.Rattle.backward.specs.Outcomes.{outcome_of, scope_view}
+use package.Rattle.backward.specs.Ready.{Ready, RanBackward, Prepared, Gone, GoneUnder, run_at, under_at}
 use package.Rattle.backward.specs.Ready.{PreparedIn, PreparedUnder, RunsBack, RunsUnder, WidenReady, Widened}
 use package.Rattle.backward.proofs.Runs.{held_later, held-slots, small_top, says, ran_from}
-use package.Rattle.backward.proofs.Stops.{is_done, is_stopped}
+use package.Rattle.backward.proofs.Stops.{is_done, is_stopped, by_outcome}
 use package.Rattle.backward.proofs.Frames.{older_later}
 use package.Rattle.backward.proofs.Leaves.{view_goes}
 use package.Rattle.backward.proofs.Entering.{leaves-stopped, leaves_done, inner-ready, inner-run}
-use Rattle.backward.specs.declared.outcomes.Out.{Out}
+use package.Rattle.backward.specs.Outcomes.{Out}
 
 ----------------------------------------------------------------
 -- The slot is marked
@@ -73,22 +70,20 @@ module _ {heap slots slots₀ : List ℕ} {m : Machine} {sc : Scope} {x : ℕ} (
   pub under-opened : {heap₁ slots₁ : List ℕ} {m₁ : Machine} {r : Out} {res : List TypeEntry → Res State} → m₁.top ≤ unknown
       → Gone 0 heap heap₁ slots₀ slots₁ m m₁ (wider sc) r res → GoneUnder heap heap₁ slots slots₁ m m₁ sc r res
   under-opened {heap₁} {slots₁} {m₁} {r} {res} small G = record {
-    ran = go (eqb r.stop 0) refl;
-    slot = λ e. rw (← view_at slots₁ sc.base sc.n few) ((G.ran.follows (is_done e)).bound.held.held sc.n newest_in);
+    ran = by_outcome r
+        (λ bs d. leaves_done O (view_full slots sc.base) from_here (is_done d) small (view_goes heap₁ slots₁ sc.base sc.n few))
+        (λ why d. leaves-stopped O (view_full slots sc.base) from_here (is_stopped d)
+        (record { newest = node_or (found heap₁ (get_or slots₁ (sc.base + sc.n) 0)); state = scope_view slots₁ sc }));
+    slot = λ e. rw (← view_at slots₁ sc.base sc.n few) ((G.ran.follows e).bound.held.held sc.n newest_in);
     below = λ j l. same j l ∙ G.below j l;
     tells = G.tells;
   }
     where
-      from_here : RanBackward 0 heap heap₁ slots slots₁ m (scope_view slots₀ (wider sc)) (outcome_of r.stop slots₁ m₁ (wider sc)) res
+      from_here : RanBackward 0 heap heap₁ slots slots₁ m (scope_view slots₀ (wider sc)) (outcome_of r slots₁ m₁ (wider sc)) res
       from_here = ran_from slots lengths G.ran
 
       newest_in : sc.n < sc.n + 1
       newest_in = omega arith
-
-      go : (stops : Bool) → eqb r.stop 0 ≡ stops → RanUnder 0 heap heap₁ slots slots₁ m (scope_view slots sc) (inner_of heap₁ r.stop slots₁ m₁ sc) res
-      go true d = leaves_done O (view_full slots sc.base) from_here (is_done (eqb-true r.stop 0 d)) small (view_goes heap₁ slots₁ sc.base sc.n few)
-      go false d = leaves-stopped O (view_full slots sc.base) from_here (is_stopped (eqb-false r.stop 0 d))
-          (record { newest = node_or (found heap₁ (get_or slots₁ (sc.base + sc.n) 0)); state = scope_view slots₁ sc })
 
 module _ {code heap slots : List ℕ} {m : Machine} {b : Bindings} {sc : Scope} {t room : ℕ} (P : Prepared 0 0 code heap slots m b sc (sc.n + 1) t room)
     (few : sc.n < max_variables) where

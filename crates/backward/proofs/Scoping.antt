@@ -32,7 +32,10 @@ use package.Rattle.backward.proofs.Lets.{let_body, let_bound, let_done, let_refu
 use package.Rattle.backward.proofs.Lets.{letp_body, letp_bound, letp_done, letp_nodes, letp_refused, letp_second, letp_space}
 use package.Rattle.backward.proofs.Runs.{refused_with, small_top, under_from}
 use package.Rattle.backward.proofs.Leaves.{view_goes}
-use Rattle.backward.specs.declared.outcomes.Out.{Out}
+use Rattle.std.specs.Prelude.{Ok, Err}
+use package.Rattle.backward.specs.Outcomes.{Out}
+use Rattle.backward.specs.declared.outcomes.Refusal.{Refusal}
+use package.Rattle.backward.proofs.Stops.{not_ok}
 
 module _ {code heap slots : List ℕ} {m : Machine} {b : Bindings} {sc : Scope} {t room : ℕ}
     (P : Prepared 2 1 code heap slots m b sc sc.n t room) {node : ℕ} (low : node < m.top) where
@@ -56,21 +59,21 @@ module _ {code heap slots : List ℕ} {m : Machine} {b : Bindings} {sc : Scope} 
 
     module _ {heap₁ slots₁ : List ℕ} {m₁ : Machine} {r : Out}
         (G : GoneUnder heap heap₁ slots slots₁ m m₁ sc r (under_at code heap slots m sc u' (value_at heap node) (room - 1))) where
-      pub let_stopped : ¬ (r.stop ≡ 0) → Stepped heap₁ slots₁ m₁ r
+      pub let_stopped : {why : Refusal} → r ≡ Err why → Stepped heap₁ slots₁ m₁ r
       let_stopped d = stops-under G d (let_refused P.ready low kind qu qu' G.ran (omega arith) (is_stopped d))
 
-      module _ (e : r.stop ≡ 0) where
+      module _ {bs : Bindings} (e : r ≡ Ok bs) where
         let_held : Held 2 code heap₁ slots₁ m₁ room
         let_held = held-under P.ready.machine refl G
 
-        pub let_leaves : Leavable heap₁ slots₁ r.state sc m₁.top
-        let_leaves = looked let_held G e sc.n P.ready.binds.within (omega arith) there (G.slot e) refl refl
+        pub let_leaves : Leavable heap₁ slots₁ bs sc m₁.top
+        let_leaves = looked let_held G e sc.n P.ready.binds.within (omega arith) there (G.slot (is_done e)) refl refl
 
-        pub let_cell : {st₁ : List ℕ} → length st₁ ≡ state_count → machine_of st₁ ≡ m₁ → CellReady heap₁ st₁ r.state sc.n
+        pub let_cell : {st₁ : List ℕ} → length st₁ ≡ state_count → machine_of st₁ ≡ m₁ → CellReady heap₁ st₁ bs sc.n
         let_cell full em = cell-ready let_held G e full em (omega arith) sc.n (omega (arith, let_few))
 
-        module _ {heap₂ slots₂ : List ℕ} {m₂ : Machine} {c : Bindings} (K : LeftBehind heap₁ heap₂ slots₁ slots₂ m₁ m₂ r.state sc.n c) where
-          abbrev let_run : RanUnder 1 heap heap₂ slots slots₂ m (scope_view slots sc) (inner_of heap₂ r.stop slots₂ m₂ sc)
+        module _ {heap₂ slots₂ : List ℕ} {m₂ : Machine} {c : Bindings} (K : LeftBehind heap₁ heap₂ slots₁ slots₂ m₁ m₂ bs sc.n c) where
+          abbrev let_run : RanUnder 1 heap heap₂ slots slots₂ m (scope_view slots sc) (inner_of heap₂ r slots₂ m₂ sc)
               (under_at code heap slots m sc u' (value_at heap node) (room - 1))
           let_run = under_left let_held G e K
 
@@ -83,9 +86,9 @@ module _ {code heap slots : List ℕ} {m : Machine} {b : Bindings} {sc : Scope} 
               onward P let_run.moves let_below (left-tells let_held G e K (omega arith) (omega arith))
               (let_bound P.ready low kind qu qu' let_run (omega arith) (is_done e)) (omega (arith, P.ready.tall))
 
-          module _ {x : ℕ} (qx : x ≡ node_or (bound heap₁ r.state sc.n)) where
+          module _ {x : ℕ} (qx : x ≡ node_or (bound heap₁ bs sc.n)) where
             let_left : x ≡ node_or (found heap₂ (get_or slots₂ (sc.base + sc.n) 0))
-            let_left = left-node let_held G e K (sc.base + sc.n) (G.slot e) (in_slot let_held G e sc.n P.ready.binds.within (omega arith) qx)
+            let_left = left-node let_held G e K (sc.base + sc.n) (G.slot (is_done e)) (in_slot let_held G e sc.n P.ready.binds.within (omega arith) qx)
 
             pub let_node : x < m₂.top
             let_node = rw let_left (let_run.there (is_done e))
@@ -132,15 +135,15 @@ module _ {code heap slots : List ℕ} {m : Machine} {b : Bindings} {sc : Scope} 
         inner_below : (j : ℕ) → j < sc.base → get_or slots j 0 ≡ get_or slots₁ j 0
         inner_below j l = marked-below P letp_few letp_there K j l ∙ here.below j l
 
-        pub letp_stopped : ¬ (r.stop ≡ 0) → Stepped heap₁ slots₁ m₁ r
+        pub letp_stopped : {why : Refusal} → r ≡ Err why → Stepped heap₁ slots₁ m₁ r
         letp_stopped d = record {
           ran = refused_with (letp_refused P.ready low kind qu qu' first_open (under_from slots (as_many P letp_few letp_there K) here.ran)
               (omega arith) (is_stopped d)) (is_stopped d) (scope_view slots₁ sc);
           below = inner_below;
-          tells = λ z. absurd (d z);
+          tells = λ _ z. absurd (not_ok d z);
         }
 
-        module _ (e : r.stop ≡ 0) where
+        module _ {bs : Bindings} (e : r ≡ Ok bs) where
           letp_held : Held 2 code heap₁ slots₁ m₁ room
           letp_held = held-under P.ready.machine (as_many P letp_few letp_there K) here
 
@@ -150,20 +153,20 @@ module _ {code heap slots : List ℕ} {m : Machine} {b : Bindings} {sc : Scope} 
               newest_in : sc.n < sc.n + 1
               newest_in = omega arith
 
-          pub letp_leaves : Leavable heap₁ slots₁ r.state sc₁ m₁.top
+          pub letp_leaves : Leavable heap₁ slots₁ bs sc₁ m₁.top
           unfolding max_parameters
           letp_leaves =
-              looked letp_held here e (sc.n + 1) (omega (arith, P.ready.binds.within)) (omega arith) (omega (arith, P.space, P.ready.tall)) (here.slot e)
+              looked letp_held here e (sc.n + 1) (omega (arith, P.ready.binds.within)) (omega arith) (omega (arith, P.space, P.ready.tall)) (here.slot (is_done e))
               (ap (λ (sc : Scope). sc.base) w) (ap (λ (sc : Scope). sc.n) w)
 
-          pub letp_leaves_first : Leavable heap₁ slots₁ r.state sc m₁.top
+          pub letp_leaves_first : Leavable heap₁ slots₁ bs sc m₁.top
           letp_leaves_first = looked letp_held here e sc.n P.ready.binds.within (omega arith) letp_there first_slot refl refl
 
-          pub letp_cell : {st₁ : List ℕ} → length st₁ ≡ state_count → machine_of st₁ ≡ m₁ → CellReady heap₁ st₁ r.state sc.n
+          pub letp_cell : {st₁ : List ℕ} → length st₁ ≡ state_count → machine_of st₁ ≡ m₁ → CellReady heap₁ st₁ bs sc.n
           letp_cell full em = cell-ready letp_held here e full em (omega arith) sc.n (omega (arith, letp_few))
 
-          module _ {heap₂ slots₂ : List ℕ} {m₂ : Machine} {c : Bindings} (L : LeftBehind heap₁ heap₂ slots₁ slots₂ m₁ m₂ r.state sc.n c) where
-            letp_run : RanUnder 1 heap heap₂ slots slots₂ m (scope_view slots₀ (wider sc)) (inner_of heap₂ r.stop slots₂ m₂ (wider sc))
+          module _ {heap₂ slots₂ : List ℕ} {m₂ : Machine} {c : Bindings} (L : LeftBehind heap₁ heap₂ slots₁ slots₂ m₁ m₂ bs sc.n c) where
+            letp_run : RanUnder 1 heap heap₂ slots slots₂ m (scope_view slots₀ (wider sc)) (inner_of heap₂ r slots₂ m₂ (wider sc))
                 (under_at code heap slots₀ m (wider sc) u' (value_at heap node) (room - 1))
             letp_run = under_from slots (as_many P letp_few letp_there K) (under_left letp_held here e L)
 
@@ -177,13 +180,13 @@ module _ {code heap slots : List ℕ} {m : Machine} {b : Bindings} {sc : Scope} 
                 (letp_bound P.ready low kind qu qu' first_open letp_run (omega arith) (is_done e) (view_goes heap₂ slots₂ sc.base sc.n letp_few))
                 (omega (arith, P.ready.tall))
 
-            module _ {x y : ℕ} (qx : x ≡ node_or (bound heap₁ r.state sc.n)) (qy : y ≡ node_or (bound heap₁ r.state sc₁.n)) where
+            module _ {x y : ℕ} (qx : x ≡ node_or (bound heap₁ bs sc.n)) (qy : y ≡ node_or (bound heap₁ bs sc₁.n)) where
               x_is : x ≡ node_or (found heap₂ (get_or slots₂ (sc.base + sc.n) 0))
               x_is = left-node letp_held here e L (sc.base + sc.n) first_slot
                   (in_slot letp_held here e sc.n P.ready.binds.within (omega arith) qx)
 
               y_is : y ≡ node_or (found heap₂ (get_or slots₂ (sc.base + (sc.n + 1)) 0))
-              y_is = left-node letp_held here e L (sc.base + (sc.n + 1)) (here.slot e)
+              y_is = left-node letp_held here e L (sc.base + (sc.n + 1)) (here.slot (is_done e))
                   (in_slot letp_held here e (sc.n + 1) (omega (arith, P.ready.binds.within)) (omega arith) (rw w at qy))
 
               pub letp_both : (x < m₂.top) × (y < m₂.top)
@@ -215,21 +218,21 @@ module _ {code heap slots : List ℕ} {m : Machine} {b : Bindings} {sc : Scope} 
 
       module _ {heap₁ slots₁ : List ℕ} {m₁ : Machine} {r : Out}
           (G : GoneUnder heap heap₁ slots slots₁ m m₁ sc r (under_at code heap slots m sc v (value_at heap node) (room - 1))) where
-        pub case_stopped : ¬ (r.stop ≡ 0) → Stepped heap₁ slots₁ m₁ r
+        pub case_stopped : {why : Refusal} → r ≡ Err why → Stepped heap₁ slots₁ m₁ r
         case_stopped d = stops-under G d (case_refused P.ready low kind plain qf l Y qu qv qs G.ran (omega arith) (is_stopped d))
 
-        module _ (e : r.stop ≡ 0) where
+        module _ {bs : Bindings} (e : r ≡ Ok bs) where
           case_held : Held 2 code heap₁ slots₁ m₁ room
           case_held = held-under P.ready.machine refl G
 
-          pub case_leaves : Leavable heap₁ slots₁ r.state sc m₁.top
-          case_leaves = looked case_held G e sc.n P.ready.binds.within (omega arith) there (G.slot e) refl refl
+          pub case_leaves : Leavable heap₁ slots₁ bs sc m₁.top
+          case_leaves = looked case_held G e sc.n P.ready.binds.within (omega arith) there (G.slot (is_done e)) refl refl
 
-          pub case_cell : {st₁ : List ℕ} → length st₁ ≡ state_count → machine_of st₁ ≡ m₁ → CellReady heap₁ st₁ r.state sc.n
+          pub case_cell : {st₁ : List ℕ} → length st₁ ≡ state_count → machine_of st₁ ≡ m₁ → CellReady heap₁ st₁ bs sc.n
           case_cell full em = cell-ready case_held G e full em (omega arith) sc.n (omega (arith, case_few))
 
-          module _ {heap₂ slots₂ : List ℕ} {m₂ : Machine} {c : Bindings} (K : LeftBehind heap₁ heap₂ slots₁ slots₂ m₁ m₂ r.state sc.n c) where
-            abbrev case_run : RanUnder 1 heap heap₂ slots slots₂ m (scope_view slots sc) (inner_of heap₂ r.stop slots₂ m₂ sc)
+          module _ {heap₂ slots₂ : List ℕ} {m₂ : Machine} {c : Bindings} (K : LeftBehind heap₁ heap₂ slots₁ slots₂ m₁ m₂ bs sc.n c) where
+            abbrev case_run : RanUnder 1 heap heap₂ slots slots₂ m (scope_view slots sc) (inner_of heap₂ r slots₂ m₂ sc)
                 (under_at code heap slots m sc v (value_at heap node) (room - 1))
             case_run = under_left case_held G e K
 
@@ -242,9 +245,9 @@ module _ {code heap slots : List ℕ} {m : Machine} {b : Bindings} {sc : Scope} 
                 onward P case_run.moves case_below (left-tells case_held G e K (omega arith) (omega arith))
                 (case_sum P.ready low kind plain qf l Y qu qv qs case_run (omega arith) (is_done e)) (omega (arith, P.ready.tall))
 
-            module _ {x : ℕ} (qx : x ≡ node_or (bound heap₁ r.state sc.n)) where
+            module _ {x : ℕ} (qx : x ≡ node_or (bound heap₁ bs sc.n)) where
               case_left : x ≡ node_or (found heap₂ (get_or slots₂ (sc.base + sc.n) 0))
-              case_left = left-node case_held G e K (sc.base + sc.n) (G.slot e) (in_slot case_held G e sc.n P.ready.binds.within (omega arith) qx)
+              case_left = left-node case_held G e K (sc.base + sc.n) (G.slot (is_done e)) (in_slot case_held G e sc.n P.ready.binds.within (omega arith) qx)
 
               pub case_node : x < m₂.top
               case_node = rw case_left (case_run.there (is_done e))

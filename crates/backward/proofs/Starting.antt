@@ -21,14 +21,18 @@ use package.Rattle.scopes.specs.declared.bindings.Bindings.{Bindings}
 use package.Rattle.scopes.proofs.Views.{tells_first}
 use package.Rattle.yields.specs.Yields.{ancillae_at}
 use package.Rattle.forward.proofs.Starting.{arguments-ancillae}
-use package.Rattle.backward.specs.Outcomes.{Status, Done, Refused, Inner, why_of, status_of, outcome_of, refusal_of, left_with, inner_of, scope_view}
+use package.Rattle.backward.specs.Outcomes.{Status, Done, Refused, Inner, outcome_of, left_with, inner_of, scope_view}
 use package.Rattle.backward.specs.Ready.{Ready, RanUnder, Prepared, PreparedUnder, GoneUnder, under_of, Leavable, under_at}
 use package.Rattle.backward.specs.Calls.{Starts, returned, Returns, StartsIn, values_scope}
 use package.Rattle.backward.proofs.Runs.{refusal-after, not_done, small_top}
 use package.Rattle.backward.proofs.Stops.{is_stopped}
 use package.Rattle.backward.proofs.Leaving.{held-under, looked, in_slot}
 use package.Rattle.backward.proofs.Calling.{arguments-state, body-ready}
-use Rattle.backward.specs.declared.outcomes.Out.{Out}
+use Rattle.std.specs.Prelude.{Ok, Err}
+use package.Rattle.backward.specs.Outcomes.{Out}
+use Rattle.backward.specs.declared.outcomes.Refusal.{Refusal}
+use package.Rattle.backward.proofs.Stops.{is_done}
+use mathlib.Core.Path.{subst}
 
 ----------------------------------------------------------------
 -- The value of the variable that leaves
@@ -116,33 +120,33 @@ module _ {code heap st : List ℕ} {q g node room : ℕ} (S : StartsIn code heap
             (under_at code heap (slots_of st) (machine_of st) (values_scope q) u (value_at heap node) room)
         here = rw w at G
 
-        pub begin_leaves : r.stop ≡ 0 → Leavable heap' slots' r.state sc m'.top
+        pub begin_leaves : {bs : Bindings} → r ≡ Ok bs → Leavable heap' slots' bs sc m'.top
         begin_leaves e =
-            looked (held-under S.starts.machine refl here) here e q (omega arith) (omega arith) (omega (arith, S.space)) (here.slot e)
+            looked (held-under S.starts.machine refl here) here e q (omega arith) (omega arith) (omega (arith, S.space)) (here.slot (is_done e))
             (ap (λ (sc : Scope). sc.base) w) (ap (λ (sc : Scope). sc.n) w)
 
         all_done : Returns code heap heap' (slots_of st) slots' (machine_of st) (scope_view (slots_of st) (values_scope q)) q g node room
-            (inner_of heap' r.stop slots' m' (values_scope q))
+            (inner_of heap' r slots' m' (values_scope q))
         all_done = start_done S.starts qu here.ran
 
-        pub input_there : r.stop ≡ 0 → {x : ℕ} → x ≡ node_or (bound heap' r.state sc.n) → {stop : ℕ} → stop ≡ r.stop
+        pub input_there : {bs : Bindings} → r ≡ Ok bs → {x : ℕ} → x ≡ node_or (bound heap' bs sc.n)
             → Returns code heap heap' (slots_of st) slots' (machine_of st) (scope_view (slots_of st) (values_scope q)) q g node room
-            (record { out = outcome_of stop slots' m' (values_scope q); newest = x })
-        input_there e qx f =
-            rw (in_slot (held-under S.starts.machine refl here) here e q (omega arith) (omega arith) (rw w at qx), f) all_done
+            (record { out = outcome_of (Ok x) slots' m' (values_scope q); newest = x })
+        input_there e qx =
+            rw (in_slot (held-under S.starts.machine refl here) here e q (omega arith) (omega arith) (rw w at qx))
+            (subst (λ s. Returns code heap heap' (slots_of st) slots' (machine_of st) (scope_view (slots_of st) (values_scope q)) q g node room
+            (record { out = record { status = s; state = m'; bindings = scope_view slots' (values_scope q) }; newest = node_or (found heap' (get_or slots' (0 + q) 0)) }))
+            (is_done e) all_done)
 
-        pub input_missing : ¬ (r.stop ≡ 0)
+        pub input_missing : {why : Refusal} → r ≡ Err why
             → Returns code heap heap' (slots_of st) slots' (machine_of st) (scope_view (slots_of st) (values_scope q)) q g node room
-            (record { out = outcome_of r.stop slots' m' (values_scope q); newest = 0 })
+            (record { out = outcome_of {A = ℕ} (Err why) slots' m' (values_scope q); newest = 0 })
         unfolding returned
-        input_missing d = record {
+        input_missing {why} d = record {
           moves = all_done.moves;
-          there = λ n. absurd (not_done (is_stopped d) n);
-          answer = λ ys. refused 0 ∙ sym (refused (node_or (found heap' (get_or slots' (0 + q) 0)))) ∙ all_done.answer ys;
+          there = λ n. absurd (not_done refl n);
+          answer = λ ys. sym (ap (returned heap' (node_or (found heap' (get_or slots' (0 + q) 0))) m'.fuel) (is_stopped d)) ∙ all_done.answer ys;
         }
-          where
-            refused : (x : ℕ) → returned heap' x m'.fuel (status_of r.stop) ≡ refusal_of (why_of r.stop)
-            refused x = ap (returned heap' x m'.fuel) (is_stopped d)
 
 pub begin_inner : {code heap st : List ℕ} {q g node room : ℕ} (S : StartsIn code heap st q g node room) {callee : ℕ} → scope_in callee ≡ values_scope q
     → {u : ℕ} → u ≡ body_in code g → {args : Bindings} → args.head ≡ 0 → PreparedUnder code heap st args callee u room

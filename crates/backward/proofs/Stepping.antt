@@ -10,14 +10,26 @@ use package.Rattle.valuegraph.specs.Nodes.{left_at, of_kind, right_at, value_at,
 use package.Rattle.scopes.specs.Slots.{Machine, Scope}
 use package.Rattle.scopes.specs.declared.bindings.Bindings.{Bindings}
 use package.Rattle.yields.specs.Yields.{Wraps}
-use package.Rattle.forward.specs.Outcomes.{refusal_in}
 use package.Rattle.backward.specs.Ready.{Gone, Prepared, run_at, step_at}
-use package.Rattle.backward.specs.Outcomes.{Refused, carried, mismatch, status_of}
+use package.Rattle.backward.specs.Outcomes.{Refused, mismatch}
 use package.Rattle.backward.proofs.Frames.{beside, gone-refused, gone-stopped, gone-then, onward}
-use package.Rattle.backward.proofs.Stops.{is_done, is_stopped, number-stuck}
+use package.Rattle.backward.proofs.Stops.{is_done, is_stopped}
 use package.Rattle.backward.proofs.Steps.{pair_done, pair-first, pair-nodes, pair-refused, pair-second, pair_stuck, unroll_done, unroll_ready, unwrap_differs, unwrap_done, unwrap_node}
 use package.Rattle.backward.proofs.Steps.{unwrap_ready}
-use Rattle.backward.specs.declared.outcomes.Out.{Out}
+use Rattle.std.specs.Prelude.{Ok, Err}
+use package.Rattle.backward.specs.Outcomes.{Out}
+use Rattle.backward.specs.declared.outcomes.Refusal.{Refusal}
+use Rattle.backward.specs.declared.outcomes.Refusal.TheVariants.{Stuck}
+use package.Rattle.valuegraph.specs.Nodes.{kind_number, kind_named}
+use package.Rattle.valuegraph.specs.declared.kinds.Kind.{Kind}
+use package.Rattle.valuegraph.proofs.Numbered.{kind_read}
+use package.Rattle.backward.specs.Ready.{PreparedIn}
+use package.Rattle.scopes.specs.Slots.{machine_of}
+
+-- the kind of the value's node, as the code has read it
+pub node_kind : {k h : ℕ} {code heap st : List ℕ} {b : Bindings} {scope t room : ℕ} → PreparedIn k h code heap st b scope t room → {node : ℕ} → node < (machine_of st).top
+    → {x : Kind} → x ≡ kind_named (nodeKind heap node) → kind_number x ≡ nodeKind heap node
+node_kind Q low e = kind_read Q.prepared.ready.machine.graph.right low e
 
 module _ {code heap slots : List ℕ} {m : Machine} {b : Bindings} {sc : Scope} {t room : ℕ}
     (P : Prepared 2 1 code heap slots m b sc sc.n t room) {node : ℕ} (low : node < m.top) where
@@ -41,15 +53,15 @@ module _ {code heap slots : List ℕ} {m : Machine} {b : Bindings} {sc : Scope} 
             → Gone 0 heap heap₁ slots slots₁ m m₁ sc r (run_at code heap slots m sc u (value_at heap x) (room - 1)) → Stepped heap₁ slots₁ m₁ r
         wrapped-gone G = gone-then (λ j l. refl) G (unwrap_done P.ready low w (sym f ∙ same) qx qu G.ran)
 
-    pub wrapped-differs : ¬ (found ≡ kind) → {r : Out} → status_of r.stop ≡ Refused (mismatch kind found t) → Stepped heap slots m r
-    wrapped-differs n e = gone-refused e (unwrap_differs P.ready low w f n refl _ e refl)
+    pub wrapped-differs : ¬ (found ≡ kind) → {why : Refusal} → why ≡ mismatch kind found t → Stepped heap slots m (Err why)
+    wrapped-differs n e = gone-refused refl (unwrap_differs P.ready low w f n refl _ (ap Refused e) refl)
 
   ----------------------------------------------------------------
   -- Pair
 
   module _ (kind : kind_in code t ≡ pair_kind) {found : ℕ} (f : found ≡ nodeKind heap node) where
-    pub paired-stuck : ¬ (found ≡ 3) → {r : Out} → status_of r.stop ≡ Refused (carried (refusal_in 0 t)) → Stepped heap slots m r
-    paired-stuck n e = gone-refused e (pair_stuck P.ready low kind f n _ (e ∙ ap Refused (number-stuck t)) refl)
+    pub paired-stuck : ¬ (found ≡ 3) → Stepped heap slots m (Err Stuck)
+    paired-stuck n = gone-refused refl (pair_stuck P.ready low kind f n _ refl refl)
 
     module _ (same : found ≡ 3) {x y : ℕ} (qx : x ≡ left_at heap node) (qy : y ≡ right_at heap node) where
       pub paired-nodes : (x < m.top) × (y < m.top)
@@ -62,14 +74,14 @@ module _ {code heap slots : List ℕ} {m : Machine} {b : Bindings} {sc : Scope} 
 
         module _ {heap₁ slots₁ : List ℕ} {m₁ : Machine} {r : Out}
             (G : Gone 0 heap heap₁ slots slots₁ m m₁ sc r (run_at code heap slots m sc u (value_at heap x) (room - 1))) where
-          pub paired-stopped : ¬ (r.stop ≡ 0) → Stepped heap₁ slots₁ m₁ r
+          pub paired-stopped : {why : Refusal} → r ≡ Err why → Stepped heap₁ slots₁ m₁ r
           paired-stopped d = gone-stopped G d (pair-refused P.ready low kind (sym f ∙ same) qx qy qu qu' G.ran (is_stopped d))
 
-          module _ (e : r.stop ≡ 0) where
-            pub paired-second : Prepared 0 0 code heap₁ slots₁ m₁ r.state sc sc.n u' (room - 1)
+          module _ {bs : Bindings} (e : r ≡ Ok bs) where
+            pub paired-second : Prepared 0 0 code heap₁ slots₁ m₁ bs sc sc.n u' (room - 1)
             unfolding max_parameters
             paired-second =
-                onward P G.ran.moves G.below (G.tells e) (pair-second P.ready low kind (sym f ∙ same) qx qy qu qu' G.ran (is_done e))
+                onward P G.ran.moves G.below (G.tells _ e) (pair-second P.ready low kind (sym f ∙ same) qx qy qu qu' G.ran (is_done e))
                 (omega (arith, P.ready.tall))
 
             pub paired-node : y < m₁.top

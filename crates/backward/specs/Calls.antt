@@ -1,5 +1,5 @@
 -- The ancilla arguments of a call, which are run forward, and the run of a function.
-use Rattle.std.specs.Prelude.{ℕ, ◌+◌, ◌*◌, ◌-◌, ◌≤◌, ◌<◌, ◌≡◌, List, [], length, get_or}
+use Rattle.std.specs.Prelude.{ℕ, ◌+◌, ◌*◌, ◌-◌, ◌≤◌, ◌<◌, ◌≡◌, List, [], length, get_or, Result, Ok, Err}
 use package.Rattle.rules.specs.Limits.{fits}
 use package.Rattle.rules.specs.Val.{Val}
 use package.Rattle.rules.specs.Term.{scope}
@@ -14,7 +14,7 @@ use package.Rattle.yields.specs.Yields.{ancillae_at}
 use package.Rattle.forward.specs.Ready.{values_at, ancillae_of as forwardAncillae, state_of as forwardState}
 use package.Rattle.backward.specs.Outcomes.{Status, Done, Refused, Outcome, Inner, status_of, scope_view, outcome_of, refusal_of}
 use package.Rattle.backward.specs.Ready.{Held, Binds, Moves, ancillae_of}
-use Rattle.backward.specs.declared.start.Input.{Input}
+use Rattle.backward.specs.declared.outcomes.Refusal.{Refusal}
 
 ----------------------------------------------------------------
 -- Arguments
@@ -43,7 +43,7 @@ gather_of code heap slots st sc t room k count ys next =
     next
 
 -- Their nodes stand in the slots behind the scope, which is as it was.
-pub record Gathers (code heap heap' slots slots' : List ℕ) (st : Machine) (sc : Scope) (t room k count stop : ℕ) (st' : Machine) : Type 0 where
+pub record Gathers (code heap heap' slots slots' : List ℕ) (st : Machine) (sc : Scope) (t room k count : ℕ) (stop : Result (Unit {0}) Refusal) (st' : Machine) : Type 0 where
   pub moves : Moves 0 heap heap' slots slots' st st'
   pub below : (j : ℕ) → j < sc.base + sc.n → get_or slots j 0 ≡ get_or slots' j 0
   pub held : status_of stop ≡ Done → (j : ℕ) → k ≤ j → j < count → get_or slots' (sc.base + sc.n + j) 0 < st'.top
@@ -80,6 +80,11 @@ unfoldable pub returned : List ℕ → ℕ → ℕ → Status → Res Val
 returned heap newest fuel Done = ok (value_at heap newest) fuel
 returned heap newest fuel (Refused why) = refusal_of why
 
+-- the node of the input, if the run gave one
+abbrev pub input_in : Result ℕ Refusal → ℕ
+input_in (Ok node) = node
+input_in (Err why) = 0
+
 -- The run of function `g` is the rules', whatever the type entries are.
 pub record Returns (code heap heap' slots slots' : List ℕ) (st : Machine) (args : View) (q g node room : ℕ) (r : Inner) : Type 0 where
   pub moves : Moves 0 heap heap' slots slots' st r.out.state
@@ -92,7 +97,7 @@ pub record Returns (code heap heap' slots slots' : List ℕ) (st : Machine) (arg
 -- In code
 
 -- the ancilla terms of call `t` were run, from number `k` on
-pub record GathersIn (code heap heap' st st' : List ℕ) (scope t room k count stop : ℕ) : Type 0 where
+pub record GathersIn (code heap heap' st st' : List ℕ) (scope t room k count : ℕ) (stop : Result (Unit {0}) Refusal) : Type 0 where
   pub lengths : length st' ≡ length st
   pub gathers : Gathers code heap heap' (slots_of st) (slots_of st') (machine_of st) (scope_in scope) t room k count stop (machine_of st')
 
@@ -105,7 +110,7 @@ pub record StartsIn (code heap st : List ℕ) (q g node room : ℕ) : Type 0 whe
   pub starts : Starts code heap (slots_of st) (machine_of st) (scope_view (slots_of st) (values_scope q)) q g node room
   pub space : q + 1 + slots_per_height * room ≤ slot_count
 
-pub record ReturnsIn (code heap heap' st st' : List ℕ) (q g node room : ℕ) (r : Input) : Type 0 where
+pub record ReturnsIn (code heap heap' st st' : List ℕ) (q g node room : ℕ) (r : Result ℕ Refusal) : Type 0 where
   pub lengths : length st' ≡ length st
   pub returns : Returns code heap heap' (slots_of st) (slots_of st') (machine_of st) (scope_view (slots_of st) (values_scope q)) q g node room
-      (record { out = outcome_of r.stop (slots_of st') (machine_of st') (values_scope q); newest = r.node })
+      (record { out = outcome_of r (slots_of st') (machine_of st') (values_scope q); newest = input_in r })

@@ -1,17 +1,19 @@
--- What the outcome of a backward run in code means: an answer of rules/specs/Run, with document 01's numbers of refusals (section 4). In code
--- the outcome is one number, with the binding state beside it. Laws: proofs/Stops, Runs.
-use Rattle.std.specs.Prelude.{ℕ, zero, suc, ◌+◌, ◌-◌, ◌/◌, ◌%◌, true, false, List, get_or, eqb, ltb}
+-- What the outcome of a backward run in code means: an answer of rules/specs/Run, with document 01's numbers of refusals (section 4). The
+-- outcome of a run is one number. Laws: proofs/Stops, Runs.
+use Rattle.std.specs.Prelude.{ℕ, zero, suc, ◌+◌, ◌-◌, ◌/◌, ◌%◌, ◌<◌, ◌≡◌, true, false, List, get_or, eqb, ltb, Result, Ok, Err}
 use package.Rattle.rules.specs.Val.{Val}
 use package.Rattle.rules.specs.Run.{Res, ok, stop, stuck, Run}
 use package.Rattle.rules.specs.Machine.{State}
 use package.Rattle.valuegraph.specs.Nodes.{value_at}
 use package.Rattle.scopes.specs.Slots.{part, Machine, Scope, found, node_or}
-use package.Rattle.scopes.specs.Bindings.{View, view_of, state_of}
+use package.Rattle.scopes.specs.Bindings.{View, view_of, state_of, state_in}
 use package.Rattle.forward.specs.Outcomes.{stopped, refusal_in}
 use package.Rattle.forward.specs.declared.outcomes.Refusal.{Refusal as Carried}
 use package.Rattle.forward.specs.declared.outcomes.Refusal.TheVariants.{Fuel as cFuel, Height as cHeight, Long as cLong, FirstMatch as cFirstMatch, Stuck as cStuck}
-use Rattle.backward.specs.declared.outcomes.Out.{Out}
 use Rattle.backward.specs.declared.outcomes.Refusal.{Refusal}
+use Rattle.backward.specs.declared.outcomes.Next.{Next}
+use Rattle.backward.specs.declared.outcomes.Next.TheVariants.{Over}
+use package.Rattle.scopes.specs.declared.bindings.Bindings.{Bindings}
 use Rattle.backward.specs.declared.outcomes.Refusal.TheVariants.{Fuel, Height, Long, FirstMatch, NoInput, Stuck}
 
 ----------------------------------------------------------------
@@ -44,24 +46,38 @@ carried cStuck = Stuck
 unfoldable pub why_of : ℕ → Refusal
 why_of s = elim (ltb s stopped) [ true ↦ NoInput ((s - 1) % part) | false ↦ carried (refusal_in ((s - stopped) / part) ((s - stopped) % part)) ]
 
+-- the number of this refusal
+pub record Numbers (s : ℕ) (why : Refusal) : Type 0 where
+  pub some : 0 < s
+  pub says : why_of s ≡ why
+
+-- the state that a run hands back, or the refusal
+abbrev pub Out : Type 0
+Out = Result Bindings Refusal
+
 -- a number of 64 bits holds two below this one
 abbrev pub half : ℕ
 half = 4294967296
 
--- the outcome that one number is: what stopped the run, and the newest cell of the state
+-- the outcome that one number is: what stopped the run, 0 if nothing did, and the newest cell of the state
 unfoldable pub out_in : ℕ → Out
-out_in r = record { stop = r / half; state = record { head = r % half } }
+out_in r = elim (eqb (r / half) 0) [ true ↦ Ok (record { head = r % half }) | false ↦ Err (why_of (r / half)) ]
 
--- 0 stops nothing
-unfoldable pub status_of : ℕ → Status
-status_of s = elim (eqb s 0) [ true ↦ Done | false ↦ Refused (why_of s) ]
+-- what a step comes to whose run is over
+abbrev pub ended_in : Out → Result Next Refusal
+ended_in (Ok b) = Ok (Over b)
+ended_in (Err why) = Err why
+
+abbrev pub status_of : {A : Type 0} → Result A Refusal → Status
+status_of (Ok a) = Done
+status_of (Err why) = Refused why
 
 -- what the slots of a scope hold
 abbrev pub scope_view : List ℕ → Scope → View
 scope_view slots sc = view_of slots sc.base sc.n
 
--- the outcome that the number `s` says, with the machine that is left and the slots of a scope
-abbrev pub outcome_of : ℕ → List ℕ → Machine → Scope → Outcome
+-- an outcome, with the machine that is left and the slots of a scope
+abbrev pub outcome_of : {A : Type 0} → Result A Refusal → List ℕ → Machine → Scope → Outcome
 outcome_of s slots m sc = record { status = status_of s; state = m; bindings = scope_view slots sc }
 
 ----------------------------------------------------------------
@@ -81,10 +97,10 @@ unfoldable pub answer_of : List ℕ → View → ℕ → Status → Res State
 answer_of heap b fuel Done = ok (state_of heap b) fuel
 answer_of heap b fuel (Refused why) = refusal_of why
 
--- the same with the rules' state itself
-unfoldable pub told_of : State → ℕ → Status → Res State
-told_of σ fuel Done = ok σ fuel
-told_of σ fuel (Refused why) = refusal_of why
+-- an outcome with the rules' state itself, which the binding state says
+unfoldable pub told_of : (heap slots : List ℕ) → Scope → ℕ → Out → Res State
+told_of heap slots sc fuel (Ok b) = ok (state_in heap slots b sc) fuel
+told_of heap slots sc fuel (Err why) = refusal_of why
 
 abbrev pub meaning : List ℕ → Outcome → Res State
 meaning heap out = answer_of heap out.bindings out.state.fuel out.status
@@ -111,5 +127,5 @@ mismatch kind found t = elim (eqb kind 1) [
 ]
 
 -- the outcome of a run in the scope with one variable more, which then leaves it
-abbrev pub inner_of : List ℕ → ℕ → List ℕ → Machine → Scope → Inner
+abbrev pub inner_of : {A : Type 0} → List ℕ → Result A Refusal → List ℕ → Machine → Scope → Inner
 inner_of heap s slots m sc = record { out = outcome_of s slots m sc; newest = node_or (found heap (get_or slots (sc.base + sc.n) 0)) }

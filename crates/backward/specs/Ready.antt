@@ -1,7 +1,8 @@
 -- What backward evaluation asks for, and what it ensures. A run has the value graph up to `top` and fuel; what is bound is a view of the
 -- scope's slots, which are an index of the binding state and of which the first `q` variables are the ancilla parameters. The last two sections tie views to the
 -- slots and the state that the code has, and both to the numbers that it is lent. Laws: proofs/Runs; proofs/Frames of the last sections.
-use Rattle.std.specs.Prelude.{ℕ, ◌+◌, ◌*◌, ◌-◌, ◌≤◌, ◌<◌, ◌≡◌, Bool, true, false, List, ◌∷◌, length, get_or, set, eqb}
+use Rattle.std.specs.Prelude.{ℕ, ◌+◌, ◌*◌, ◌-◌, ◌≤◌, ◌<◌, ◌≡◌, Bool, true, false, List, ◌∷◌, length, get_or, set, Result, Ok, Err}
+use Rattle.std.specs.Result.{result_ok}
 use Rattle.std.proofs.Math.Option.{none}
 use package.Rattle.rules.specs.Limits.{fits, max_variables}
 use package.Rattle.rules.specs.Val.{Val, pair}
@@ -19,10 +20,11 @@ use package.Rattle.scopes.specs.declared.bindings.Bindings.{Bindings}
 use package.Rattle.yields.specs.Yields.{ancillae_at, ancillae_in}
 use package.Rattle.forward.specs.Ready.{Graph}
 use package.Rattle.backward.specs.Scoped.{ScopedAt, Bodies}
-use package.Rattle.backward.specs.Outcomes.{Done, Refused, Outcome, Inner, status_of, scope_view, outcome_of, inner_of, meaning, told_of, left_with}
+use package.Rattle.backward.specs.Outcomes.{Out, Done, too_long, Outcome, Inner, status_of, ended_in, scope_view, outcome_of, inner_of, meaning, told_of, left_with}
 use Rattle.backward.specs.declared.outcomes.Refusal.TheVariants.{NoInput, Stuck}
-use Rattle.backward.specs.declared.outcomes.Out.{Out}
 use Rattle.backward.specs.declared.outcomes.Next.{Next}
+use Rattle.backward.specs.declared.outcomes.Next.TheVariants.{On}
+use Rattle.backward.specs.declared.outcomes.Refusal.{Refusal}
 
 ----------------------------------------------------------------
 -- Before
@@ -137,16 +139,16 @@ pub record Prepared (k h : ℕ) (code heap slots : List ℕ) (m : Machine) (b : 
 
 -- A run in a scope, which leaves the slots below as they were.
 pub record Gone (k : ℕ) (heap heap' slots slots' : List ℕ) (m m' : Machine) (sc : Scope) (r : Out) (res : List TypeEntry → Res State) : Type 0 where
-  pub ran : RanBackward k heap heap' slots slots' m (scope_view slots sc) (outcome_of r.stop slots' m' sc) res
+  pub ran : RanBackward k heap heap' slots slots' m (scope_view slots sc) (outcome_of r slots' m' sc) res
   pub below : (j : ℕ) → j < sc.base → get_or slots j 0 ≡ get_or slots' j 0
-  pub tells : r.stop ≡ 0 → Tells heap' slots' r.state sc.base sc.q sc.n m'.top
+  pub tells : (b : Bindings) → r ≡ Ok b → Tells heap' slots' b sc.base sc.q sc.n m'.top
 
 -- The same in the scope with one variable more, which is there to leave it.
 pub record GoneUnder (heap heap' slots slots' : List ℕ) (m m' : Machine) (sc : Scope) (r : Out) (res : List TypeEntry → Res State) : Type 0 where
-  pub ran : RanUnder 0 heap heap' slots slots' m (scope_view slots sc) (inner_of heap' r.stop slots' m' sc) res
-  pub slot : r.stop ≡ 0 → Slot heap' (get_or slots' (sc.base + sc.n) 0) m'.top
+  pub ran : RanUnder 0 heap heap' slots slots' m (scope_view slots sc) (inner_of heap' r slots' m' sc) res
+  pub slot : status_of r ≡ Done → Slot heap' (get_or slots' (sc.base + sc.n) 0) m'.top
   pub below : (j : ℕ) → j < sc.base → get_or slots j 0 ≡ get_or slots' j 0
-  pub tells : r.stop ≡ 0 → Tells heap' slots' r.state sc.base sc.q (sc.n + 1) m'.top
+  pub tells : (b : Bindings) → r ≡ Ok b → Tells heap' slots' b sc.base sc.q (sc.n + 1) m'.top
 
 -- The newest variable, the one above scope `sc`, can be looked up: in its slot the state sees what it binds it to.
 pub record Leavable (heap slots : List ℕ) (b : Bindings) (sc : Scope) (top : ℕ) : Type 0 where
@@ -216,7 +218,7 @@ pub record RunsBack (code heap heap' st st' : List ℕ) (b : Bindings) (scope t 
   pub lengths : length st' ≡ length st
   pub gone : GoneIn 0 heap heap' st st' scope r (run_at code heap (slots_of st) (machine_of st) (scope_in scope) t (value_at heap node) room)
   pub answer : (ys : List TypeEntry)
-      → told_of (state_in heap' (slots_of st') r.state (scope_in scope)) (machine_of st').fuel (status_of r.stop)
+      → told_of heap' (slots_of st') (scope_in scope) (machine_of st').fuel r
       ≡ backward fits (program_in code ys) room (ancillae_in heap st scope) (state_in heap (slots_of st) b (scope_in scope)) (tree_in code ys t)
       (value_at heap node) (machine_of st).fuel
 
@@ -250,26 +252,33 @@ pub record GoesOn (k : ℕ) (code heap heap' st st' : List ℕ) (scope room : �
       → GoneFrom k heap heap'' st slots'' m'' scope r res
 
 -- what a step comes to: the run is over, or goes on
-pub record LeadsTo (k : ℕ) (code heap heap' st st' : List ℕ) (scope room : ℕ) (res : List TypeEntry → Res State) (n : Next) : Type 0 where
+pub record LeadsTo (k : ℕ) (code heap heap' st st' : List ℕ) (scope room : ℕ) (res : List TypeEntry → Res State) (n : Result Next Refusal) : Type 0 where
   pub lengths : length st' ≡ length st
-  pub over : n.more ≡ false → GoneIn k heap heap' st st' scope n.out res
-  pub on : n.more ≡ true → GoesOn k code heap heap' st st' scope room res n.out.state n.term n.node
+  pub over : (out : Out) → n ≡ ended_in out → GoneIn k heap heap' st st' scope out res
+  pub on : (t node : ℕ) (b : Bindings) → n ≡ Ok (On t node b) → GoesOn k code heap heap' st st' scope room res b t node
 
 -- of term `t`, entered with the value at `node`
-abbrev pub StepsTo : (code heap heap' st st' : List ℕ) → ℕ → ℕ → ℕ → ℕ → Next → Type 0
+abbrev pub StepsTo : (code heap heap' st st' : List ℕ) → ℕ → ℕ → ℕ → ℕ → Result Next Refusal → Type 0
 StepsTo code heap heap' st st' scope t node room n = LeadsTo 2 code heap heap' st st' scope (room - 1)
     (step_at code heap (slots_of st) (machine_of st) (scope_in scope) t (value_at heap node) room) n
 
 -- of term `t`, to be entered with a value that is made for it
-abbrev pub Enters : (code heap heap' st st' : List ℕ) → ℕ → ℕ → Val → ℕ → Next → Type 0
+abbrev pub Enters : (code heap heap' st st' : List ℕ) → ℕ → ℕ → Val → ℕ → Result Next Refusal → Type 0
 Enters code heap heap' st st' scope t v room n = LeadsTo 1 code heap heap' st st' scope room
     (run_at code heap (slots_of st) (machine_of st) (scope_in scope) t v room) n
 
-abbrev pub EntersSingle : (code heap heap' st st' : List ℕ) → ℕ → ℕ → ℕ → ℕ → ℕ → Next → Type 0
+-- a node was made at the first free place for term `t`, or its value is too long
+pub record EntersNew (made : Bool) (st st' : List ℕ) (b : Bindings) (t room : ℕ) (n : Result Next Refusal) : Type 0 where
+  pub lengths : length st' ≡ length st
+  pub slots : slots_of st' ≡ slots_of st
+  pub new : made ≡ true → (machine_of st' ≡ record { top = (machine_of st).top + 1; fuel = (machine_of st).fuel }) × (n ≡ Ok (On t (machine_of st).top b))
+  pub long : made ≡ false → (machine_of st' ≡ machine_of st) × (n ≡ Err (too_long (machine_of st).fuel room t))
+
+abbrev pub EntersSingle : (code heap heap' st st' : List ℕ) → ℕ → ℕ → ℕ → ℕ → ℕ → Result Next Refusal → Type 0
 EntersSingle code heap heap' st st' scope t kind part room n = Enters code heap heap' st st' scope t
     (of_kind kind (value_at heap part) (value_at heap part)) room n
 
-abbrev pub EntersPair : (code heap heap' st st' : List ℕ) → ℕ → ℕ → ℕ → ℕ → ℕ → Next → Type 0
+abbrev pub EntersPair : (code heap heap' st st' : List ℕ) → ℕ → ℕ → ℕ → ℕ → ℕ → Result Next Refusal → Type 0
 EntersPair code heap heap' st st' scope t left right room n = Enters code heap heap' st st' scope t (pair (value_at heap left) (value_at heap right)) room n
 
 ----------------------------------------------------------------
@@ -277,11 +286,10 @@ EntersPair code heap heap' st st' scope t left right room n = Enters code heap h
 
 -- Variable `i` was met at term `t`: 16 where the values differ.
 pub record Variable (heap heap' st st' : List ℕ) (b : Bindings) (sc : Scope) (i node t : ℕ) (r : Out) : Type 0 where
-  pub met : MeetsAt heap heap' st st' b sc i node (record { agrees = eqb r.stop 0; state = r.state })
-  pub differs : (r.stop ≡ 0 → ⊥) → status_of r.stop ≡ Refused (NoInput t)
+  pub met : MeetsAt heap heap' st st' b sc i node (result_ok r)
+  pub differs : (why : Refusal) → r ≡ Err why → why ≡ NoInput t
 
 -- The unit was met with a value.
 pub record UnitMet (heap : List ℕ) (b : Bindings) (node : ℕ) (r : Out) : Type 0 where
-  pub met : nodeKind heap node ≡ 0 → r.stop ≡ 0
-  pub differs : (nodeKind heap node ≡ 0 → ⊥) → status_of r.stop ≡ Refused Stuck
-  pub state : r.state ≡ b
+  pub met : nodeKind heap node ≡ 0 → r ≡ Ok b
+  pub differs : (nodeKind heap node ≡ 0 → ⊥) → r ≡ Err Stuck

@@ -3,13 +3,13 @@
 ghost use Rattle.forward.specs.Ready.{ReadyIn, Calls};
 ghost use Rattle.backward.specs.Calls.{GathersIn};
 
+use crate::outcomes::Refusal;
 use decoded::rows;
 use decoded::rows::CODE;
-use forward::outcomes::STOPPED;
 use scopes::state::STATE;
 use scopes::{slots, state};
 
-// The ancilla terms of call t from number k of `count` on: what stops them, or 0. An argument is placed once all others are there: they are
+// The ancilla terms of call t from number k of `count` on, or what stops them. An argument is placed once all others are there: they are
 // evaluated in slots behind the scope too.
 pub fn gather(
     code: &[u16; CODE],
@@ -20,19 +20,23 @@ pub fn gather(
     room: u16,
     k: usize,
     count: usize,
-) -> u32
+) -> Result<(), Refusal>
     requires ready_in { ReadyIn 1 0 code.now ws.old st.old scope t room }
     requires calls { Calls code.now t k count }
     ensures { GathersIn code.now ws.old ws.new st.old st.new scope t room k count result }
 {
     if k == count {
-        return 0;
+        return Ok(());
     }
     let argument = rows::argument_of(code, t, k);
-    let x = forward::eval::eval(code, ws, st, scope, argument, room - 1);
-    if STOPPED <= x {
-        return x;
-    }
+    let x = forward::outcomes::status_of(forward::eval::eval(
+        code,
+        ws,
+        st,
+        scope,
+        argument,
+        room - 1,
+    ))?;
     let next = k + 1;
     let others = gather(code, ws, st, scope, t, room, next, count);
     slots::bind(st, state::end_of(scope) + k, x);

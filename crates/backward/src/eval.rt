@@ -5,25 +5,26 @@
 // state; a function that is called has its scope behind its caller's. Laws: proofs/Entering to Calling, in code proofs/Arriving to Called.
 ghost use Rattle.std.specs.Prelude.{◌≡◌, true, false, ◌<◌};
 ghost use Rattle.program.specs.Kinds.{pair_kind, let_kind, let_pair_kind, case_kind, call_kind, unroll_kind};
-ghost use Rattle.valuegraph.specs.Nodes.{Single};
+ghost use Rattle.valuegraph.specs.Nodes.{kind_number, Single};
 ghost use Rattle.decoded.specs.Rows.{kind_in};
 ghost use Rattle.scopes.specs.Slots.{machine_of};
 ghost use Rattle.yields.specs.Yields.{Wraps};
 ghost use Rattle.backward.specs.Outcomes.{out_in};
 ghost use Rattle.backward.specs.Ready.{PreparedIn, PreparedBound, RunsBack, RunsBound, CaseThat, StepsTo, EntersSingle, EntersPair};
 
-use crate::outcomes::{Next, Out};
+use crate::outcomes::{Next, Refusal};
 use crate::{arguments, outcomes};
+use decoded::rows;
 use decoded::rows::CODE;
-use decoded::{kinds, rows};
-use forward::outcomes::{FUEL, HEIGHT, STOPPED, STUCK};
+use program::kinds::TermKind;
 use scopes::bindings::Bindings;
 use scopes::state;
 use scopes::state::STATE;
 use valuegraph::nodes;
+use valuegraph::nodes::Kind;
 
 // Term t with the value at `node`, in a scope, with height `room` left.
-#[cycle(back_branch_call_choose_chosen_let_one_let_two_matched_pair_step)]
+#[cycle(back)]
 pub fn back(
     code: &[u16; CODE],
     ws: &mut [u8],
@@ -38,29 +39,33 @@ pub fn back(
     requires node_bound { node < (machine_of st.old).top }
     ensures { RunsBack code.now ws.old ws.new st.old st.new b scope t node room (out_in result) }
 {
+    // Kept: a loop on the fuel. What is turned over is the term, its value and the state, of which each step gives the next: there is no sequence
+    // that a `for` could go over.
     let mut known = b;
     let mut term = t;
     let mut value = node;
     let mut height = room;
     while state::fuel(st) != 0 {
         if height == 0 {
-            return outcomes::packed(outcomes::refuse(known, HEIGHT, term));
+            return outcomes::packed(Err(Refusal::Height(term)));
         }
         state::spend(st);
-        let next = step(code, ws, st, known, scope, term, value, height);
-        if !next.more {
-            return outcomes::packed(next.out);
+        match step(code, ws, st, known, scope, term, value, height) {
+            Err(why) => return outcomes::packed(Err(why)),
+            Ok(Next::Over(state)) => return outcomes::packed(Ok(state)),
+            Ok(Next::On(part, below, state)) => {
+                known = state;
+                term = part;
+                value = below;
+                height = height - 1;
+            }
         }
-        known = next.out.state;
-        term = next.term;
-        value = next.node;
-        height = height - 1;
     }
-    outcomes::packed(outcomes::refuse(known, FUEL, term))
+    outcomes::packed(Err(Refusal::Fuel(term)))
 }
 
 // Term t, once it is entered, by its kind.
-#[cycle(back_branch_call_choose_chosen_let_one_let_two_matched_pair_step)]
+#[cycle(back)]
 fn step(
     code: &[u16; CODE],
     ws: &mut [u8],
@@ -70,25 +75,23 @@ fn step(
     t: u16,
     node: u32,
     room: u16,
-) -> Next
+) -> Result<Next, Refusal>
     requires prepared_in { PreparedIn 2 1 code.now ws.old st.old b scope t room }
     requires node_bound { node < (machine_of st.old).top }
     ensures { StepsTo code.now ws.old ws.new st.old st.new scope t node room result }
 {
-    match rows::kind_of(code, t) {
-        kinds::VARIABLE => outcomes::ended(outcomes::variable(code, ws, st, b, scope, t, node)),
-        kinds::UNIT => outcomes::ended(outcomes::unit(ws, b, node, t)),
-        kinds::INL => unwrap(code, ws, st, b, scope, t, node, room, nodes::INL),
-        kinds::INR => unwrap(code, ws, st, b, scope, t, node, room, nodes::INR),
-        kinds::PAIR => pair(code, ws, st, b, scope, t, node, room),
-        kinds::LET => let_one(code, ws, st, b, scope, t, node, room),
-        kinds::LET_PAIR => let_two(code, ws, st, b, scope, t, node, room),
-        kinds::CASE => choose(code, ws, st, b, scope, t, node, room),
-        kinds::CALL => call(code, ws, st, b, scope, t, node, room),
-        kinds::ROLL => unwrap(code, ws, st, b, scope, t, node, room, nodes::ROLL),
-        kinds::UNROLL => unroll(code, ws, st, b, scope, t, node, room),
-        // never met: there is no other kind
-        _ => outcomes::ended(outcomes::refuse(b, STUCK, t)),
+    match rows::term_kind(code, t) {
+        TermKind::Variable => outcomes::ended(outcomes::variable(code, ws, st, b, scope, t, node)),
+        TermKind::Unit => outcomes::ended(outcomes::unit(ws, b, node)),
+        TermKind::Inl => unwrap(code, ws, st, b, scope, t, node, room, Kind::Inl),
+        TermKind::Inr => unwrap(code, ws, st, b, scope, t, node, room, Kind::Inr),
+        TermKind::Pair => pair(code, ws, st, b, scope, t, node, room),
+        TermKind::Let => let_one(code, ws, st, b, scope, t, node, room),
+        TermKind::LetPair => let_two(code, ws, st, b, scope, t, node, room),
+        TermKind::Case => choose(code, ws, st, b, scope, t, node, room),
+        TermKind::Call => call(code, ws, st, b, scope, t, node, room),
+        TermKind::Roll => unwrap(code, ws, st, b, scope, t, node, room, Kind::Roll),
+        TermKind::Unroll => unroll(code, ws, st, b, scope, t, node, room),
     }
 }
 
@@ -102,19 +105,14 @@ fn over(
     t: u16,
     part: u32,
     room: u16,
-    kind: u8,
-) -> Next
+    kind: Kind,
+) -> Result<Next, Refusal>
     requires prepared_in { PreparedIn 1 0 code.now ws.old st.old b scope t room }
-    requires part_bound { (part < (machine_of st.old).top) × Single kind }
-    ensures { EntersSingle code.now ws.old ws.new st.old st.new scope t kind part room result }
+    requires part_bound { (part < (machine_of st.old).top) × Single (kind_number kind) }
+    ensures { EntersSingle code.now ws.old ws.new st.old st.new scope t (kind_number kind) part room result }
 {
-    let top = state::top(st);
-    let made = nodes::single(ws, top, kind, part);
-    if made {
-        state::grow(st);
-        return outcomes::goes_on(t, top, b);
-    }
-    outcomes::ended(outcomes::long(b, state::fuel(st), t, room))
+    let made = nodes::single(ws, state::top(st), kind, part);
+    outcomes::entering(made, st, b, t, room)
 }
 
 // Term t with the pair of two values.
@@ -128,18 +126,13 @@ fn over_pair(
     left: u32,
     right: u32,
     room: u16,
-) -> Next
+) -> Result<Next, Refusal>
     requires prepared_in { PreparedIn 1 0 code.now ws.old st.old b scope t room }
     requires left_bound { (left < (machine_of st.old).top) × (right < (machine_of st.old).top) }
     ensures { EntersPair code.now ws.old ws.new st.old st.new scope t left right room result }
 {
-    let top = state::top(st);
-    let made = nodes::pair(ws, top, left, right);
-    if made {
-        state::grow(st);
-        return outcomes::goes_on(t, top, b);
-    }
-    outcomes::ended(outcomes::long(b, state::fuel(st), t, room))
+    let made = nodes::pair(ws, state::top(st), left, right);
+    outcomes::entering(made, st, b, t, room)
 }
 
 // inl, inr and roll, by the kind of node that they take apart.
@@ -152,23 +145,23 @@ fn unwrap(
     t: u16,
     node: u32,
     room: u16,
-    kind: u8,
-) -> Next
+    kind: Kind,
+) -> Result<Next, Refusal>
     requires prepared_in { PreparedIn 2 1 code.now ws.old st.old b scope t room }
-    requires node_bound { (node < (machine_of st.old).top) × Wraps (kind_in code.now t) kind }
+    requires node_bound { (node < (machine_of st.old).top) × Wraps (kind_in code.now t) (kind_number kind) }
     ensures { StepsTo code.now ws.old ws.new st.old st.new scope t node room result }
 {
     let found = nodes::kind_of(ws, node);
-    if found == kind {
-        let part = rows::second_of(code, t);
-        let x = nodes::left_of(ws, node);
-        return outcomes::goes_on(part, x, b);
+    if found != kind {
+        return Err(outcomes::differ(kind, found, t));
     }
-    outcomes::ended(outcomes::differ(b, kind, found, t))
+    let part = rows::second_of(code, t);
+    let x = nodes::left_of(ws, node);
+    Ok(Next::On(part, x, b))
 }
 
 // The left part, then the right.
-#[cycle(back_branch_call_choose_chosen_let_one_let_two_matched_pair_step)]
+#[cycle(back)]
 fn pair(
     code: &[u16; CODE],
     ws: &mut [u8],
@@ -178,30 +171,25 @@ fn pair(
     t: u16,
     node: u32,
     room: u16,
-) -> Next
+) -> Result<Next, Refusal>
     requires prepared_in { PreparedIn 2 1 code.now ws.old st.old b scope t room }
     requires node_bound { (node < (machine_of st.old).top) × (kind_in code.now t ≡ pair_kind) }
     ensures { StepsTo code.now ws.old ws.new st.old st.new scope t node room result }
 {
-    let found = nodes::kind_of(ws, node);
-    if found != nodes::PAIR {
-        return outcomes::ended(outcomes::refuse(b, STUCK, t));
+    if nodes::kind_of(ws, node) != Kind::Pair {
+        return Err(Refusal::Stuck);
     }
     let first = rows::first_of(code, t);
     let second = rows::second_of(code, t);
     let x = nodes::left_of(ws, node);
     let y = nodes::right_of(ws, node);
     let h = room - 1;
-    let r = outcomes::unpacked(back(code, ws, st, b, scope, first, x, h));
-    let c = r.state;
-    if r.stop != 0 {
-        return outcomes::ended(r);
-    }
-    outcomes::goes_on(second, y, c)
+    let c = outcomes::unpacked(back(code, ws, st, b, scope, first, x, h))?;
+    Ok(Next::On(second, y, c))
 }
 
 // let x = e in b: the body, then the bound term.
-#[cycle(back_branch_call_choose_chosen_let_one_let_two_matched_pair_step)]
+#[cycle(back)]
 fn let_one(
     code: &[u16; CODE],
     ws: &mut [u8],
@@ -211,7 +199,7 @@ fn let_one(
     t: u16,
     node: u32,
     room: u16,
-) -> Next
+) -> Result<Next, Refusal>
     requires prepared_in { PreparedIn 2 1 code.now ws.old st.old b scope t room }
     requires node_bound { (node < (machine_of st.old).top) × (kind_in code.now t ≡ let_kind) }
     ensures { StepsTo code.now ws.old ws.new st.old st.new scope t node room result }
@@ -220,18 +208,14 @@ fn let_one(
     let body = rows::second_of(code, t);
     let h = room - 1;
     let wide = outcomes::widen(st, scope);
-    let r = outcomes::unpacked(back(code, ws, st, b, wide, body, node, h));
-    let inner = r.state;
-    if r.stop != 0 {
-        return outcomes::ended(r);
-    }
+    let inner = outcomes::unpacked(back(code, ws, st, b, wide, body, node, h))?;
     let x = outcomes::leave(ws, st, inner, scope);
     let c = outcomes::outer(ws, st, inner, scope);
-    outcomes::goes_on(bound, x, c)
+    Ok(Next::On(bound, x, c))
 }
 
 // let (x, y) = e in b
-#[cycle(back_branch_call_choose_chosen_let_one_let_two_matched_pair_step)]
+#[cycle(back)]
 fn let_two(
     code: &[u16; CODE],
     ws: &mut [u8],
@@ -241,7 +225,7 @@ fn let_two(
     t: u16,
     node: u32,
     room: u16,
-) -> Next
+) -> Result<Next, Refusal>
     requires prepared_in { PreparedIn 2 1 code.now ws.old st.old b scope t room }
     requires node_bound { (node < (machine_of st.old).top) × (kind_in code.now t ≡ let_pair_kind) }
     ensures { StepsTo code.now ws.old ws.new st.old st.new scope t node room result }
@@ -251,11 +235,7 @@ fn let_two(
     let h = room - 1;
     let one = outcomes::widen(st, scope);
     let both = outcomes::widen(st, one);
-    let r = outcomes::unpacked(back(code, ws, st, b, both, body, node, h));
-    let inner = r.state;
-    if r.stop != 0 {
-        return outcomes::ended(r);
-    }
+    let inner = outcomes::unpacked(back(code, ws, st, b, both, body, node, h))?;
     let y = outcomes::leave(ws, st, inner, one);
     let x = outcomes::leave(ws, st, inner, scope);
     let c = outcomes::outer(ws, st, inner, scope);
@@ -263,7 +243,7 @@ fn let_two(
 }
 
 // case e of inl x ⇒ b, inr y ⇒ b', by whether it chooses by an ancilla (document 02, F-3).
-#[cycle(back_branch_call_choose_chosen_let_one_let_two_matched_pair_step)]
+#[cycle(back)]
 fn choose(
     code: &[u16; CODE],
     ws: &mut [u8],
@@ -273,7 +253,7 @@ fn choose(
     t: u16,
     node: u32,
     room: u16,
-) -> Next
+) -> Result<Next, Refusal>
     requires prepared_in { PreparedIn 2 1 code.now ws.old st.old b scope t room }
     requires node_bound { (node < (machine_of st.old).top) × (kind_in code.now t ≡ case_kind) }
     ensures { StepsTo code.now ws.old ws.new st.old st.new scope t node room result }
@@ -288,7 +268,7 @@ fn choose(
 
 // A case that chooses by an ancilla: its scrutinee forward, in the state at hand, then the branch that it chooses. What the scrutinee names is
 // known, so that it takes the branch that it took forward.
-#[cycle(back_branch_call_choose_chosen_let_one_let_two_matched_pair_step)]
+#[cycle(back)]
 fn chosen(
     code: &[u16; CODE],
     ws: &mut [u8],
@@ -298,32 +278,30 @@ fn chosen(
     t: u16,
     node: u32,
     room: u16,
-) -> Next
+) -> Result<Next, Refusal>
     requires prepared_in { PreparedIn 2 1 code.now ws.old st.old b scope t room }
     requires node_bound { (node < (machine_of st.old).top) × CaseThat true code.now scope t }
     ensures { StepsTo code.now ws.old ws.new st.old st.new scope t node room result }
 {
     let sum = rows::first_of(code, t);
     let h = room - 1;
-    let s = forward::eval::eval(code, ws, st, scope, sum, h);
-    if STOPPED <= s {
-        return outcomes::ended(Out { stop: s, state: b });
-    }
-    let kind = nodes::kind_of(ws, s);
+    let s = forward::outcomes::status_of(forward::eval::eval(code, ws, st, scope, sum, h))?;
     let part = nodes::left_of(ws, s);
-    if kind == nodes::INL {
-        let left = rows::second_of(code, t);
-        return outcomes::ended(branch(code, ws, st, b, scope, part, left, node, h));
+    match nodes::kind_of(ws, s) {
+        Kind::Inl => {
+            let left = rows::second_of(code, t);
+            outcomes::ended(branch(code, ws, st, b, scope, part, left, node, h))
+        }
+        Kind::Inr => {
+            let right = rows::third_of(code, t);
+            outcomes::ended(branch(code, ws, st, b, scope, part, right, node, h))
+        }
+        _ => Err(Refusal::Stuck),
     }
-    if kind == nodes::INR {
-        let right = rows::third_of(code, t);
-        return outcomes::ended(branch(code, ws, st, b, scope, part, right, node, h));
-    }
-    outcomes::ended(outcomes::refuse(b, STUCK, t))
 }
 
 // Term t in the scope with one variable more, which is bound to the value at `part` and leaves when the term is run.
-#[cycle(back_branch_call_choose_chosen_let_one_let_two_matched_pair_step)]
+#[cycle(back)]
 fn branch(
     code: &[u16; CODE],
     ws: &mut [u8],
@@ -334,24 +312,19 @@ fn branch(
     t: u16,
     node: u32,
     room: u16,
-) -> Out
+) -> Result<Bindings, Refusal>
     requires prepared_bound { PreparedBound code.now ws.old st.old b scope t room }
     requires part_bound { (part < (machine_of st.old).top) × (node < (machine_of st.old).top) }
     ensures { RunsBound code.now ws.old ws.new st.old st.new scope t part node room result }
 {
     let known = b.entered(ws, st, scope, part);
     let wide = state::wider(scope);
-    let r = outcomes::unpacked(back(code, ws, st, known, wide, t, node, room));
-    let inner = r.state;
-    if r.stop != 0 {
-        return r;
-    }
-    let c = outcomes::outer(ws, st, inner, scope);
-    Out { stop: 0, state: c }
+    let inner = outcomes::unpacked(back(code, ws, st, known, wide, t, node, room))?;
+    Ok(outcomes::outer(ws, st, inner, scope))
 }
 
 // A case under first match: a branch, then the scrutinee.
-#[cycle(back_branch_call_choose_chosen_let_one_let_two_matched_pair_step)]
+#[cycle(back)]
 fn matched(
     code: &[u16; CODE],
     ws: &mut [u8],
@@ -361,7 +334,7 @@ fn matched(
     t: u16,
     node: u32,
     room: u16,
-) -> Next
+) -> Result<Next, Refusal>
     requires prepared_in { PreparedIn 2 1 code.now ws.old st.old b scope t room }
     requires node_bound { (node < (machine_of st.old).top) × CaseThat false code.now scope t }
     ensures { StepsTo code.now ws.old ws.new st.old st.new scope t node room result }
@@ -373,18 +346,14 @@ fn matched(
     let side = outcomes::side_of(left);
     let h = room - 1;
     let wide = outcomes::widen(st, scope);
-    let r = outcomes::unpacked(back(code, ws, st, b, wide, branch, node, h));
-    let inner = r.state;
-    if r.stop != 0 {
-        return outcomes::ended(r);
-    }
+    let inner = outcomes::unpacked(back(code, ws, st, b, wide, branch, node, h))?;
     let x = outcomes::leave(ws, st, inner, scope);
     let c = outcomes::outer(ws, st, inner, scope);
     over(code, ws, st, c, scope, sum, x, h, side)
 }
 
 // A call: its ancilla terms forward; the function's body, its dynamic parameter not known; the dynamic term in the state at hand.
-#[cycle(back_branch_call_choose_chosen_let_one_let_two_matched_pair_step)]
+#[cycle(back)]
 fn call(
     code: &[u16; CODE],
     ws: &mut [u8],
@@ -394,29 +363,22 @@ fn call(
     t: u16,
     node: u32,
     room: u16,
-) -> Next
+) -> Result<Next, Refusal>
     requires prepared_in { PreparedIn 2 1 code.now ws.old st.old b scope t room }
     requires node_bound { (node < (machine_of st.old).top) × (kind_in code.now t ≡ call_kind) }
     ensures { StepsTo code.now ws.old ws.new st.old st.new scope t node room result }
 {
-    let k = octets::wide_index(rows::third_of(code, t));
-    let stop = arguments::gather(code, ws, st, scope, t, room, 0, k);
-    if stop != 0 {
-        return outcomes::ended(Out { stop, state: b });
-    }
+    let k = usize::from(rows::third_of(code, t));
+    arguments::gather(code, ws, st, scope, t, room, 0, k)?;
     let body = rows::body_of(code, rows::first_of(code, t));
     let args = Bindings::none();
     let callee = state::scope(state::end_of(scope), k, k);
     let h = room - 1;
     let wide = outcomes::widen(st, callee);
-    let r = outcomes::unpacked(back(code, ws, st, args, wide, body, node, h));
-    let inner = r.state;
-    if r.stop != 0 {
-        return outcomes::ended(r);
-    }
+    let inner = outcomes::unpacked(back(code, ws, st, args, wide, body, node, h))?;
     let x = outcomes::leave(ws, st, inner, callee);
     let dynamic = rows::argument_of(code, t, k);
-    outcomes::goes_on(dynamic, x, b)
+    Ok(Next::On(dynamic, x, b))
 }
 
 fn unroll(
@@ -428,11 +390,11 @@ fn unroll(
     t: u16,
     node: u32,
     room: u16,
-) -> Next
+) -> Result<Next, Refusal>
     requires prepared_in { PreparedIn 2 1 code.now ws.old st.old b scope t room }
     requires node_bound { (node < (machine_of st.old).top) × (kind_in code.now t ≡ unroll_kind) }
     ensures { StepsTo code.now ws.old ws.new st.old st.new scope t node room result }
 {
     let part = rows::second_of(code, t);
-    over(code, ws, st, b, scope, part, node, room - 1, nodes::ROLL)
+    over(code, ws, st, b, scope, part, node, room - 1, Kind::Roll)
 }

@@ -1,6 +1,6 @@
 -- A length beyond the most that makes a difference changes no answer (specs/Capped): the workspace is held to what the fuel needs, the
 -- output to what a call writes, a value, which has at most `max_value_bytes` bytes, or the entries of a journal.
-use Prim.Native.Nat.{ℕ, ◌≤◌, ◌<◌}
+use Prim.Native.Nat.{ℕ, ◌≤◌, ◌<◌, min}
 use native.Mathlib.Omega.{arith}
 use mathlib.Core.Path.{◌≡◌, refl, sym, ap, ap₂, subst, ◌∙◌}
 use mathlib.Core.Bool.{Bool, true, false, cond}
@@ -40,13 +40,14 @@ capped-most most n = by (leb n most) refl
     by true e = leb-true n most e
     by false e = omega arith
 
-pub capped-low : (most n : ℕ) → n ≤ most → n ≡ capped most n
+-- as code brings it down
+pub is_capped : (most n : ℕ) {k : ℕ} → k ≡ min n most → k ≡ capped most n
 unfolding capped
-capped-low most n h = sym (rw (le-leb n most h))
-
-pub capped_high : (most n : ℕ) → most < n → most ≡ capped most n
-unfolding capped
-capped_high most n h = sym (rw (lt-leb n most h))
+is_capped most n {k} e = by (leb n most) refl
+  where
+    by : (t : Bool) → leb n most ≡ t → k ≡ cond t n most
+    by true f = let h : n ≤ most = leb-true n most f in omega (arith, e)
+    by false f = let h : most < n = leb-false n most f in omega (arith, e)
 
 -- a buffer of the most is lent as far as the length brought down
 module _ (most n : ℕ) {k : ℕ} (e : k ≡ capped most n) (buffer : List ℕ) (h : most ≤ length buffer) where

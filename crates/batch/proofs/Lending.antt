@@ -14,8 +14,7 @@ use package.Rattle.calltext.proofs.Writing.{wrote_to}
 use package.Rattle.batch.specs.Capped.{most_workspace, most_output, answer_room}
 use package.Rattle.batch.specs.Answering.{answer_line}
 use package.Rattle.batch.specs.Lent.{on_front, Replies, Lent, digits_fit, enough, enough_for, LineCase, LineMeans}
-use package.Rattle.batch.specs.declared.LineAnswer.{LineAnswer}
-use package.Rattle.batch.specs.declared.LineAnswer.TheVariants.{Ends, Short}
+use Rattle.std.specs.Prelude.{Option, Some, None, IfSome}
 
 -- a front part that was lent, as a call left it, and the rest
 pub on-front : {n k : ℕ} → k ≡ n → (buffer : List ℕ) {part : List ℕ} (f : List ℕ → List ℕ) → part ≡ f (take k buffer) → part ++ drop k buffer ≡ on_front n f buffer
@@ -54,54 +53,24 @@ enough-all n p anc v ws o out e =
       ((leb-true most_workspace ws ws?, leb-true most_output o o?), leb-true (2 * v + answer_room) out out?),
     )
 
--- one test after another
-module _ (n p anc v ws o out : ℕ) where
-  pub short-program : digits_fit n p ≡ false → false ≡ enough n p anc v ws o out
-  unfolding enough
-  short-program e = sym (rw e)
-
-  module _ (e₁ : digits_fit n p ≡ true) where
-    pub short-ancillae : digits_fit n anc ≡ false → false ≡ enough n p anc v ws o out
-    unfolding enough
-    short-ancillae e = sym (rw (e₁, e))
-
-    module _ (e₂ : digits_fit n anc ≡ true) where
-      pub short-value : digits_fit n v ≡ false → false ≡ enough n p anc v ws o out
-      unfolding enough
-      short-value e = sym (rw (e₁, e₂, e))
-
-      module _ (e₃ : digits_fit n v ≡ true) where
-        pub short-workspace : ws < most_workspace → false ≡ enough n p anc v ws o out
-        unfolding enough
-        short-workspace h = sym (rw (e₁, e₂, e₃, lt-leb most_workspace ws h))
-
-        module _ (h₄ : most_workspace ≤ ws) where
-          pub short-output : o < most_output → false ≡ enough n p anc v ws o out
-          unfolding enough
-          short-output h = sym (rw (e₁, e₂, e₃, le-leb most_workspace ws h₄, lt-leb most_output o h))
-
-          pub last-test : most_output ≤ o → leb (2 * v + answer_room) out ≡ enough n p anc v ws o out
-          unfolding enough
-          last-test h = sym (rw (e₁, e₂, e₃, le-leb most_workspace ws h₄, le-leb most_output o h))
-
 ----------------------------------------------------------------
 -- A line
 
 module _ {line : List ℕ} {b b' : Lent} where
-  pub short-line : enough_for line b ≡ false → b' ≡ b → LineMeans Short line b b'
-  short-line e h = record { means = subst (λ t. LineCase t Short line b b') (sym e) (record { short = refl; kept = h }) }
+  pub short-line : enough_for line b ≡ false → b' ≡ b → LineMeans None line b b'
+  short-line e h = record { means = subst (λ t. LineCase t None line b b') (sym e) (record { short = refl; kept = h }) }
 
   pub answered-line : {end : ℕ} → enough_for line b ≡ true
       → Replies (read_line line) end (value_left line b.value) b'.value b.workspace b'.workspace b.output b'.output b.out b'.out
-      → b'.program ≡ program_left line b.program → b'.ancillae ≡ ancillae_left line b.ancillae → LineMeans (Ends end) line b b'
+      → b'.program ≡ program_left line b.program → b'.ancillae ≡ ancillae_left line b.ancillae → LineMeans (Some end) line b b'
   unfolding answer_line
   answered-line {end} e h p anc =
       let ends : end ≡ length (answer_line line) = omega (arith, h.told.ends) in
       record {
         means =
-            subst (λ t. LineCase t (Ends end) line b b') (sym e)
+            subst (λ t. LineCase t (Some end) line b b') (sym e)
             (record {
-              ends = ap Ends ends;
+              ends = ap Some ends;
               told = wrote_to h.told ends;
               program = p;
               ancillae = anc;
@@ -112,12 +81,12 @@ module _ {line : List ℕ} {b b' : Lent} where
       }
 
 -- where the answer ends, if it does
-abbrev end_of : LineAnswer → ℕ
-end_of (Ends n) = n
-end_of Short = 0
+abbrev end_of : Option ℕ → ℕ
+end_of (Some n) = n
+end_of None = 0
 
 -- an answer that ends stands at the start of its buffer
-pub ends-told : {r : LineAnswer} {line : List ℕ} {b b' : Lent} → LineMeans r line b b' → {n : ℕ} → r ≡ Ends n → Wrote b.out b'.out 0 n (answer_line line)
+pub ends-told : {r : Option ℕ} {line : List ℕ} {b b' : Lent} → LineMeans r line b b' → {n : ℕ} → r ≡ Some n → Wrote b.out b'.out 0 n (answer_line line)
 ends-told {r} {line} {b} {b'} h {n} e = by (enough_for line b) h.means
   where
     by : (t : Bool) → LineCase t r line b b' → Wrote b.out b'.out 0 n (answer_line line)

@@ -15,11 +15,10 @@ use package.Rattle.calls.specs.Conversions.{Turned}
 use package.Rattle.calls.specs.Book.{after_open, after_turned}
 use package.Rattle.calls.specs.Readers.{Seen, held_bytes}
 use package.Rattle.calls.proofs.Answer.{refused≢accepted, accepted_inj, bytes-first}
-use package.Rattle.answers.specs.declared.CheckAnswer.{CheckAnswer}
-use package.Rattle.answers.specs.declared.RunAnswer.{RunAnswer}
-use package.Rattle.answers.specs.declared.RunAnswer.TheVariants.{Ran as RanTo, Refused}
-use package.Rattle.answers.specs.declared.NurseAnswer.{NurseAnswer}
-use package.Rattle.answers.specs.declared.WriteAnswer.{WriteAnswer}
+use Rattle.std.specs.Prelude.{Result, Ok, Err}
+use package.Rattle.answers.specs.declared.Refusal.{Refusal}
+use package.Rattle.answers.specs.declared.Done.{Done}
+use package.Rattle.answers.specs.declared.Shown.{Shown}
 use package.Rattle.answers.specs.Answers.{check_answer, run_answer, nurse_answer, write_answer, open_answer, held_answer, seen_answer, length_answer, summary}
 use package.Rattle.engine.specs.Runs.{CallMeans}
 use package.Rattle.calltext.specs.Answers.{value_line, seen_line, bytes_line}
@@ -34,17 +33,17 @@ unfolding run_text written ◌>>=◌ ran_text
 told-run (accepted r) out = ap (λ l. value_line l r.steps) (take_at (encode r.value) _ (size r.value) (length-encode r.value))
 told-run (refused n p) out = refl
 
-pub tells-run : (r : RunAnswer) (x : Answer Ran) (out : List ℕ) {out' : List ℕ} → run_answer r ≡ summary x → out' ≡ written x out → run_text (run_answer r) out' ≡ ran_text x
+pub tells-run : (r : Result Done Refusal) (x : Answer Ran) (out : List ℕ) {out' : List ℕ} → run_answer r ≡ summary x → out' ≡ written x out → run_text (run_answer r) out' ≡ ran_text x
 tells-run r x out e f = ap₂ run_text e f ∙ told-run x out
 
 -- what an answer says it filled is within the output
-pub length-within : (r : RunAnswer) (x : Answer Ran) (n : ℕ) → run_answer r ≡ summary x → ((y : Ran) → x ≡ accepted y → size y.value ≤ n) → length_of r ≤ n
-length-within (RanTo d) (accepted y) n e h = omega (arith, ap (λ p. p.0) (accepted_inj e), h y refl)
-length-within (RanTo d) (refused m p) n e h = absurd (refused≢accepted (sym e))
-length-within (Refused q) x n e h = omega arith
+pub length-within : (r : Result Done Refusal) (x : Answer Ran) (n : ℕ) → run_answer r ≡ summary x → ((y : Ran) → x ≡ accepted y → size y.value ≤ n) → length_of r ≤ n
+length-within (Ok d) (accepted y) n e h = omega (arith, ap (λ p. p.0) (accepted_inj e), h y refl)
+length-within (Ok d) (refused m p) n e h = absurd (refused≢accepted (sym e))
+length-within (Err q) x n e h = omega arith
 
 -- the same call by another name
-pub means_as : {r : RunAnswer} {x y : Answer Ran} {out out' ws ws' : List ℕ} → CallMeans r x out out' ws ws' → x ≡ y → CallMeans r y out out' ws ws'
+pub means_as : {r : Result Done Refusal} {x y : Answer Ran} {out out' ws ws' : List ℕ} → CallMeans r x out out' ws ws' → x ≡ y → CallMeans r y out out' ws ws'
 means_as {r} {x} {y} {out} {out'} {ws} {ws'} m e = subst (λ z. CallMeans r z out out' ws ws') e m
 
 ----------------------------------------------------------------
@@ -55,7 +54,7 @@ unfolding opened_text after_open open_text
 told_open (accepted j) journal = refl
 told_open (refused n p) journal = refl
 
-pub tells_open : (r : CheckAnswer) (x : Answer (List ℕ)) (journal : List ℕ) {journal' : List ℕ} → check_answer r ≡ open_answer x → journal' ≡ (after_open journal x).journal
+pub tells_open : (r : Result (Unit {0}) Refusal) (x : Answer (List ℕ)) (journal : List ℕ) {journal' : List ℕ} → check_answer r ≡ open_answer x → journal' ≡ (after_open journal x).journal
     → opened_text (check_answer r) journal' ≡ open_text x
 tells_open r x journal e f = ap₂ opened_text e f ∙ told_open x journal
 
@@ -64,7 +63,7 @@ unfolding held_text after_turned turn_text
 told-turn (accepted t) journal = refl
 told-turn (refused n p) journal = refl
 
-pub tells-turn : (r : RunAnswer) (x : Answer Turned) (journal : List ℕ) {journal' : List ℕ} → run_answer r ≡ held_answer x → journal' ≡ (after_turned journal x).journal
+pub tells-turn : (r : Result Done Refusal) (x : Answer Turned) (journal : List ℕ) {journal' : List ℕ} → run_answer r ≡ held_answer x → journal' ≡ (after_turned journal x).journal
     → held_text (run_answer r) journal' ≡ turn_text x
 tells-turn r x journal e f = ap₂ held_text e f ∙ told-turn x journal
 
@@ -82,11 +81,11 @@ told_write (accepted xs) out = ap bytes_line (bytes-first (accepted xs) out)
 told_write (refused n p) out = refl
 
 -- an answer that a reader gave, and the output that it left
-pub tells-nurse : (r : NurseAnswer) (x : Answer Seen) (out : List ℕ) {out' : List ℕ} → nurse_answer r ≡ seen_answer x
+pub tells-nurse : (r : Result Shown Refusal) (x : Answer Seen) (out : List ℕ) {out' : List ℕ} → nurse_answer r ≡ seen_answer x
     → out' ≡ overwritten (held_bytes x) out → nurse_text (nurse_answer r) out' ≡ shown_text x
 tells-nurse r x out a f = ap₂ nurse_text a f ∙ told-nurse x out
 
-pub tells_write : (r : WriteAnswer) (x : Answer (List ℕ)) (out : List ℕ) {out' : List ℕ} → write_answer r ≡ length_answer x
+pub tells_write : (r : Result ℕ Refusal) (x : Answer (List ℕ)) (out : List ℕ) {out' : List ℕ} → write_answer r ≡ length_answer x
     → out' ≡ overwritten x out → write_text (write_answer r) out' ≡ listed_text x
 tells_write r x out a f = ap₂ write_text a f ∙ told_write x out
 

@@ -1,5 +1,5 @@
 -- What the buffers that are lent hold after a line is answered. Laws: proofs/Lending.
-use Rattle.std.specs.Prelude.{ℕ, ◌+◌, ◌*◌, ◌≡◌, Bool, true, false, ◌&&◌, List, ◌++◌, length, take, drop, leb}
+use Rattle.std.specs.Prelude.{ℕ, ◌+◌, ◌*◌, ◌≡◌, Bool, true, false, ◌&&◌, List, ◌++◌, length, take, drop, leb, Option, Some, None}
 use package.Rattle.calls.specs.Answer.{cleared, overwritten}
 use package.Rattle.calls.specs.Runs.{check_call, written}
 use package.Rattle.calls.specs.Book.{after_open, after_turned}
@@ -8,8 +8,6 @@ use package.Rattle.calltext.specs.Left.{program_left, ancillae_left, value_left}
 use package.Rattle.calltext.specs.Wrote.{Wrote}
 use package.Rattle.batch.specs.Capped.{most_workspace, most_output, capped, answer_room}
 use package.Rattle.batch.specs.Answering.{ran_by, opened_by, converted_by, rolled_back_by, read_by, answer_to, answer_line}
-use package.Rattle.batch.specs.declared.LineAnswer.{LineAnswer}
-use package.Rattle.batch.specs.declared.LineAnswer.TheVariants.{Ends, Short}
 
 ----------------------------------------------------------------
 -- The call of a line
@@ -97,13 +95,13 @@ enough_for line b =
     enough (length line) (length b.program) (length b.ancillae) (length b.value) (length b.workspace) (length b.output) (length b.out)
 
 -- the buffers are too short: nothing is done
-pub record TooShort (r : LineAnswer) (b b' : Lent) : Type 0 where
-  pub short : r ≡ Short
+pub record TooShort (r : Option ℕ) (b b' : Lent) : Type 0 where
+  pub short : r ≡ None
   pub kept : b' ≡ b
 
 -- the line is answered
-pub record Answered (r : LineAnswer) (line : List ℕ) (b b' : Lent) : Type 0 where
-  pub ends : r ≡ Ends (length (answer_line line))
+pub record Answered (r : Option ℕ) (line : List ℕ) (b b' : Lent) : Type 0 where
+  pub ends : r ≡ Some (length (answer_line line))
   pub told : Wrote b.out b'.out 0 (length (answer_line line)) (answer_line line)
   pub program : b'.program ≡ program_left line b.program
   pub ancillae : b'.ancillae ≡ ancillae_left line b.ancillae
@@ -111,10 +109,10 @@ pub record Answered (r : LineAnswer) (line : List ℕ) (b b' : Lent) : Type 0 wh
   pub workspace : b'.workspace ≡ workspace_after (read_line line) b.workspace
   pub output : b'.output ≡ output_after (read_line line) b.output
 
-abbrev pub LineCase : Bool → LineAnswer → List ℕ → Lent → Lent → Type 0
+abbrev pub LineCase : Bool → Option ℕ → List ℕ → Lent → Lent → Type 0
 LineCase true r line b b' = Answered r line b b'
 LineCase false r line b b' = TooShort r b b'
 
 -- what a line is answered, with the buffers before and after
-pub record LineMeans (r : LineAnswer) (line : List ℕ) (b b' : Lent) : Type 0 where
+pub record LineMeans (r : Option ℕ) (line : List ℕ) (b b' : Lent) : Type 0 where
   pub means : LineCase (enough_for line b) r line b b'

@@ -45,15 +45,12 @@ pub(crate) fn open(
     ensures keeps { journal.new ≡ on_front (length (take call.journal journal.old)) (λ j. (after_open j (open_call (take call.program program.now) (take call.held held.now) call.workspace (length (take call.journal journal.old)))).journal) journal.old }
     ensures clear { workspace.new ≡ on_front (capped most_workspace call.workspace) (cleared (open_call (take call.program program.now) (take call.held held.now) call.workspace (length (take call.journal journal.old)))) workspace.old }
 {
-    let p = call.program;
-    let h = call.held;
-    let j = call.journal;
-    let ws = making::least(call.workspace, making::MOST_WORKSPACE);
+    let ws = call.workspace.min(making::MOST_WORKSPACE);
     open_lent(
-        &program[..p],
-        &held[..h],
+        &program[..call.program],
+        &held[..call.held],
         &mut workspace[..ws],
-        &mut journal[..j],
+        &mut journal[..call.journal],
         out,
     )
 }
@@ -93,17 +90,14 @@ pub(crate) fn convert(
     ensures keeps { journal.new ≡ on_front (length (take call.journal journal.old)) (λ j. (after_turned j (convert_call (take call.program program.now) call.function (take call.ancillae ancillae.now) call.fuel call.workspace (take call.journal journal.old))).journal) journal.old }
     ensures clear { workspace.new ≡ on_front (capped most_workspace call.workspace) (cleared (convert_call (take call.program program.now) call.function (take call.ancillae ancillae.now) call.fuel call.workspace (take call.journal journal.old))) workspace.old }
 {
-    let p = call.program;
-    let a = call.ancillae;
-    let j = call.journal;
-    let ws = making::least(call.workspace, making::MOST_WORKSPACE);
+    let ws = call.workspace.min(making::MOST_WORKSPACE);
     convert_lent(
-        &program[..p],
+        &program[..call.program],
         call.function,
-        &ancillae[..a],
+        &ancillae[..call.ancillae],
         call.fuel,
         &mut workspace[..ws],
-        &mut journal[..j],
+        &mut journal[..call.journal],
         out,
     )
 }
@@ -140,14 +134,12 @@ pub(crate) fn rollback(
     ensures keeps { journal.new ≡ on_front (length (take call.journal journal.old)) (λ j. (after_turned j (rollback_call (take call.program program.now) call.fuel call.workspace (take call.journal journal.old))).journal) journal.old }
     ensures clear { workspace.new ≡ on_front (capped most_workspace call.workspace) (cleared (rollback_call (take call.program program.now) call.fuel call.workspace (take call.journal journal.old))) workspace.old }
 {
-    let p = call.program;
-    let j = call.journal;
-    let ws = making::least(call.workspace, making::MOST_WORKSPACE);
+    let ws = call.workspace.min(making::MOST_WORKSPACE);
     rollback_lent(
-        &program[..p],
+        &program[..call.program],
         call.fuel,
         &mut workspace[..ws],
-        &mut journal[..j],
+        &mut journal[..call.journal],
         out,
     )
 }

@@ -19,12 +19,8 @@ ghost use Rattle.calltext.specs.Left.{program_left, ancillae_left, value_left};
 ghost use Rattle.batch.specs.Capped.{most_workspace, most_output, answer_room};
 ghost use Rattle.batch.specs.Lent.{Replies, lent, LineMeans};
 
-// Where the answer ends; or a buffer is too short for the line, and nothing was done.
-#[derive(Drop)]
-pub enum LineAnswer {
-    Ends(usize),
-    Short,
-}
+// Where the answer ends; none where a buffer is too short for the line, and nothing was done.
+pub type LineAnswer = Option<usize>;
 
 // The line that answers a line, in buffers that are long enough: where it ends.
 fn answer_within(
@@ -60,7 +56,7 @@ pub fn answer(
 ) -> LineAnswer
     ensures { LineMeans result line.now (lent program.old ancillae.old value.old workspace.old output.old out.old) (lent program.new ancillae.new value.new workspace.new output.new out.new) }
 {
-    if room::enough(
+    if !room::enough(
         line.len(),
         program.len(),
         ancillae.len(),
@@ -69,9 +65,7 @@ pub fn answer(
         output.len(),
         out.len(),
     ) {
-        return LineAnswer::Ends(answer_within(
-            line, program, ancillae, value, workspace, output, out,
-        ));
+        return None;
     }
-    LineAnswer::Short
+    Some(answer_within(line, program, ancillae, value, workspace, output, out))
 }

@@ -21,16 +21,6 @@ pub(crate) const MOST_WORKSPACE: usize = WORKSPACE_BASE + WORKSPACE_PER_FUEL * M
 // The most bytes that a call writes: the entries of a journal, which may take more than a value.
 pub(crate) const MOST_OUTPUT: usize = MOST_ENTRIES;
 
-// A length, at most `most`.
-pub(crate) fn least(n: usize, most: usize) -> usize
-    ensures { result ≡ capped most n }
-{
-    if n <= most {
-        return n;
-    }
-    most
-}
-
 // A check, made and answered.
 pub(crate) fn check(call: CheckCall, program: &[u8], workspace: &mut [u8], out: &mut [u8]) -> usize
     requires program_in_bounds { call.program ≤ length program.now }
@@ -39,9 +29,8 @@ pub(crate) fn check(call: CheckCall, program: &[u8], workspace: &mut [u8], out: 
     ensures answer { Wrote out.old out.new 0 result (check_text (check_call (take call.program program.now) call.workspace)) }
     ensures clear { workspace.new ≡ on_front (capped most_workspace call.workspace) (cleared (check_call (take call.program program.now) call.workspace)) workspace.old }
 {
-    let n = call.program;
-    let ws = least(call.workspace, MOST_WORKSPACE);
-    let answer = engine::check(&program[..n], &mut workspace[..ws]);
+    let ws = call.workspace.min(MOST_WORKSPACE);
+    let answer = engine::check(&program[..call.program], &mut workspace[..ws]);
     replies::check_line(answer, out)
 }
 
@@ -104,17 +93,14 @@ pub(crate) fn run(
     ensures fills { output.new ≡ on_front (capped most_output call.output) (written (run_call call.backward (take call.program program.now) call.function (take call.ancillae ancillae.now) (take call.value value.now) call.fuel call.workspace call.output)) output.old }
     ensures clear { workspace.new ≡ on_front (capped most_workspace call.workspace) (cleared (run_call call.backward (take call.program program.now) call.function (take call.ancillae ancillae.now) (take call.value value.now) call.fuel call.workspace call.output)) workspace.old }
 {
-    let p = call.program;
-    let a = call.ancillae;
-    let v = call.value;
-    let ws = least(call.workspace, MOST_WORKSPACE);
-    let len = least(call.output, MOST_OUTPUT);
+    let ws = call.workspace.min(MOST_WORKSPACE);
+    let len = call.output.min(MOST_OUTPUT);
     run_lent(
         call.backward,
-        &program[..p],
+        &program[..call.program],
         call.function,
-        &ancillae[..a],
-        &value[..v],
+        &ancillae[..call.ancillae],
+        &value[..call.value],
         call.fuel,
         &mut workspace[..ws],
         &mut output[..len],

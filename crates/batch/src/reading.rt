@@ -32,7 +32,11 @@ pub(crate) fn read(call: ReaderCall, journal: &[u8], output: &mut [u8], out: &mu
     ensures answer { Wrote out.old out.new 0 result (read_text call.workshop (take call.journal journal.now) call.output) }
     ensures fills { output.new ≡ on_front (capped most_output call.output) (overwritten (read_bytes call.workshop (take call.journal journal.now) call.output)) output.old }
 {
-    let j = call.journal;
-    let len = making::least(call.output, making::MOST_OUTPUT);
-    read_lent(call.workshop, &journal[..j], &mut output[..len], out)
+    let len = call.output.min(making::MOST_OUTPUT);
+    read_lent(
+        call.workshop,
+        &journal[..call.journal],
+        &mut output[..len],
+        out,
+    )
 }

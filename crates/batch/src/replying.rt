@@ -7,7 +7,7 @@ ghost use Rattle.batch.specs.Answering.{word_error};
 ghost use Rattle.batch.specs.Lent.{Replies};
 
 use crate::{keeping, making, reading};
-use calltext::calls::Parsed;
+use calltext::calls::{Call, ParseError, Parsed};
 use calltext::{answers as texts, decimal};
 
 // What is wrong with word k.
@@ -16,7 +16,7 @@ fn word_error(k: u8, what: &[u8], out: &mut [u8]) -> usize
     ensures { Wrote out.old out.new 0 result (word_error k what.now) }
 {
     let named = texts::put(b"error word ", out, 0);
-    let counted = decimal::put_number(k as u64, out, named);
+    let counted = decimal::put_number(u64::from(k), out, named);
     texts::put(what, out, counted)
 }
 
@@ -37,15 +37,19 @@ pub(crate) fn reply(
     ensures { Replies (line_of parsed program.now ancillae.now value.old) result value.old value.new workspace.old workspace.new output.old output.new out.old out.new }
 {
     match parsed {
-        Parsed::Checks(call) => making::check(call, program, workspace, out),
-        Parsed::Runs(call) => making::run(call, program, ancillae, value, workspace, output, out),
-        Parsed::Opens(call) => keeping::open(call, program, ancillae, value, workspace, out),
-        Parsed::Converts(call) => keeping::convert(call, program, ancillae, value, workspace, out),
-        Parsed::RollsBack(call) => keeping::rollback(call, program, value, workspace, out),
-        Parsed::Reads(call) => reading::read(call, value, output, out),
-        Parsed::NoCall => texts::put(b"error no call of this name\n", out, 0),
-        Parsed::WordCount => texts::put(b"error too few or too many words\n", out, 0),
-        Parsed::NoNumber(k) => word_error(k, b" is no number in its range\n", out),
-        Parsed::NoBytes(k) => word_error(k, b" is no bytes in hexadecimal\n", out),
+        Ok(call) => match call {
+            Call::Check(call) => making::check(call, program, workspace, out),
+            Call::Run(call) => making::run(call, program, ancillae, value, workspace, output, out),
+            Call::Open(call) => keeping::open(call, program, ancillae, value, workspace, out),
+            Call::Convert(call) => keeping::convert(call, program, ancillae, value, workspace, out),
+            Call::Rollback(call) => keeping::rollback(call, program, value, workspace, out),
+            Call::Read(call) => reading::read(call, value, output, out),
+        },
+        Err(error) => match error {
+            ParseError::NoCall => texts::put(b"error no call of this name\n", out, 0),
+            ParseError::WordCount => texts::put(b"error too few or too many words\n", out, 0),
+            ParseError::NoNumber(k) => word_error(k, b" is no number in its range\n", out),
+            ParseError::NoBytes(k) => word_error(k, b" is no bytes in hexadecimal\n", out),
+        },
     }
 }

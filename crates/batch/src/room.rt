@@ -8,30 +8,27 @@ use crate::making;
 // The room that an answer needs beside a journal in hexadecimal: for an output in hexadecimal, and for words and numbers.
 const ANSWER_ROOM: usize = 2 * making::MOST_OUTPUT + 64;
 
-// Is there room for so many digits in so many bytes, two a byte?
+// So many digits a byte is.
+const DIGITS: usize = 2;
+
+// Is there room for so many digits in so many bytes?
+#[tactic(auto, unfolding(crate::specs::Lent::digits_fit))]
 fn fits_digits(digits: usize, len: usize) -> bool
     ensures { result ≡ digits_fit digits len }
 {
-    if len < digits / 2 + digits % 2 {
-        return false;
-    }
-    true
+    digits.div_ceil(DIGITS) <= len
 }
 
 // Is there room for the answer, beside a journal as long as the value's buffer?
+#[tactic(auto, unfolding(crate::specs::Capped::most_output))]
 fn fits_answer(value: usize, out: usize) -> bool
     ensures { result ≡ leb (2 * value + answer_room) out }
 {
-    if out < ANSWER_ROOM {
-        return false;
-    }
-    if (out - ANSWER_ROOM) / 2 < value {
-        return false;
-    }
-    true
+    ANSWER_ROOM <= out && value <= (out - ANSWER_ROOM) / DIGITS
 }
 
 // Is each buffer long enough for the line?
+#[tactic(auto, unfolding(crate::specs::Lent::enough, crate::specs::Capped::most_workspace, crate::specs::Capped::most_output))]
 pub(crate) fn enough(
     line: usize,
     program: usize,
@@ -43,20 +40,10 @@ pub(crate) fn enough(
 ) -> bool
     ensures { result ≡ enough line program ancillae value workspace output out }
 {
-    if !fits_digits(line, program) {
-        return false;
-    }
-    if !fits_digits(line, ancillae) {
-        return false;
-    }
-    if !fits_digits(line, value) {
-        return false;
-    }
-    if workspace < making::MOST_WORKSPACE {
-        return false;
-    }
-    if output < making::MOST_OUTPUT {
-        return false;
-    }
-    fits_answer(value, out)
+    fits_digits(line, program)
+        && fits_digits(line, ancillae)
+        && fits_digits(line, value)
+        && making::MOST_WORKSPACE <= workspace
+        && making::MOST_OUTPUT <= output
+        && fits_answer(value, out)
 }

@@ -4,52 +4,49 @@ use native.Mathlib.Omega.{arith}
 use native.Mathlib.Nat.{div-lt_iff_lt-mul, pow-suc}
 use mathlib.Core.Path.{◌≡◌, refl, sym, ap, ◌∙◌}
 use mathlib.Core.Bool.{Bool, true, false, cond}
-use mathlib.Core.Option.{none, some}
+use Rattle.std.specs.Prelude.{Some, None}
 use mathlib.Core.List.{List, [], ◌∷◌, ◌++◌}
 use lib.ListN.{length, drop, get_or, length-append, drop_of_length-le}
 use lib.Seq.{drop-cons}
 use lib.Dec.{ltb}
+use mathlib.Core.Logic.{◌⊎◌, inl, inr}
 use borrow.Author.Tests.{lt-ltb, le-ltb, ltb-true, ltb-false}
 use package.Rattle.calltext.specs.Decimal.{carried, number_in, text_in, decimal_text}
 
 ----------------------------------------------------------------
 -- Reading: the first `i` digits carry 0 to `n`
 
-pub no_digits : (most : ℕ) (w : List ℕ) → length w ≡ 0 → none ≡ number_in most w
+pub no_digits : (most : ℕ) (w : List ℕ) → length w ≡ 0 → None ≡ number_in most w
 unfolding number_in
 no_digits most [] e = refl
 no_digits most (b ∷ w) e = absurd (omega (arith, e))
 
-pub some_digits : (most : ℕ) (w : List ℕ) → (length w ≡ 0 → ⊥) → number_in most w ≡ carried most 0 (drop 0 w)
+pub some_digits : (most : ℕ) (w : List ℕ) → (length w ≡ 0 → ⊥) → number_in most w ≡ carried most 0 w
 unfolding number_in
 some_digits most [] e = absurd (e refl)
 some_digits most (b ∷ w) e = refl
 
-digit : (most n : ℕ) (w : List ℕ) (i : ℕ) → i < length w → carried most n (drop i w) ≡ carried most n (get_or w i 0 ∷ drop (suc i) w)
-digit most n w i h = ap (carried most n) (drop-cons w i 0 h)
-
 module _ (most n : ℕ) (w : List ℕ) (i : ℕ) (left : number_in most w ≡ carried most n (drop i w)) where
-  pub stops-low : i < length w → get_or w i 0 < 48 → none ≡ number_in most w
-  unfolding carried
-  stops-low h l = sym (left ∙ digit most n w i h ∙ rw (lt-ltb (get_or w i 0) 48 l))
+  module _ (h : i < length w) where
+    -- the next byte, in front of the rest
+    next : number_in most w ≡ carried most n (get_or w i 0 ∷ drop (i + 1) w)
+    next = left ∙ ap (carried most n) (drop-cons w i 0 h ∙ ap (λ k. get_or w i 0 ∷ drop k w) (let z : suc i ≡ i + 1 = omega arith in z))
 
-  pub stops_high : i < length w → 48 ≤ get_or w i 0 → 57 < get_or w i 0 → none ≡ number_in most w
-  unfolding carried
-  stops_high h l l' = sym (left ∙ digit most n w i h ∙ rw (le-ltb (get_or w i 0) 48 l, lt-ltb 57 (get_or w i 0) l'))
+    pub stops_other : (get_or w i 0 < 48) ⊎ (57 < get_or w i 0) → None ≡ number_in most w
+    unfolding carried
+    stops_other (inl l) = sym (next ∙ rw (lt-ltb (get_or w i 0) 48 l))
+    stops_other (inr l) = sym (next ∙ rw (le-ltb (get_or w i 0) 48 (omega arith), lt-ltb 57 (get_or w i 0) l))
 
-  pub stops_large : i < length w → 48 ≤ get_or w i 0 → get_or w i 0 ≤ 57 → most < n * 10 + (get_or w i 0 - 48) → none ≡ number_in most w
-  unfolding carried
-  stops_large h l l' m = sym (left ∙ digit most n w i h ∙ rw (le-ltb (get_or w i 0) 48 l, le-ltb 57 (get_or w i 0) l', lt-ltb most _ m))
+    module _ (low : 48 ≤ get_or w i 0) (high : get_or w i 0 ≤ 57) (m : ℕ) (is : m ≡ n * 10 + (get_or w i 0 - 48)) where
+      pub stops_large : most < m → None ≡ number_in most w
+      unfolding carried
+      stops_large l = sym (next ∙ rw (le-ltb (get_or w i 0) 48 low, le-ltb 57 (get_or w i 0) high, lt-ltb most _ (rw is at l)))
 
-  pub carries : i < length w → 48 ≤ get_or w i 0 → get_or w i 0 ≤ 57 → n * 10 + (get_or w i 0 - 48) ≤ most
-      → number_in most w ≡ carried most (n * 10 + (get_or w i 0 - 48)) (drop (i + 1) w)
-  unfolding carried
-  carries h l l' m =
-      left
-      ∙ digit most n w i h
-      ∙ rw (le-ltb (get_or w i 0) 48 l, le-ltb 57 (get_or w i 0) l', le-ltb most _ m) (ap (λ k. carried most (n * 10 + (get_or w i 0 - 48)) (drop k w)) (let z : suc i ≡ i + 1 = omega arith in z))
+      pub carries : m ≤ most → number_in most w ≡ carried most m (drop (i + 1) w)
+      unfolding carried
+      carries l = next ∙ rw (le-ltb (get_or w i 0) 48 low, le-ltb 57 (get_or w i 0) high, le-ltb most _ (rw is at l), is)
 
-  pub carried-all : length w ≤ i → some n ≡ number_in most w
+  pub carried-all : length w ≤ i → Some n ≡ number_in most w
   unfolding carried
   carried-all h = sym (left ∙ ap (carried most n) (drop_of_length-le w h))
 

@@ -1,38 +1,56 @@
--- The first index at which a byte stands, byte by byte.
-use Rattle.std.proofs.Common.{◌≡◌, ◌+◌, ◌<◌, ◌≤◌, ◌∙◌, ap, ℕ, suc, cond, true, false, List, length, take, drop, eqb, eq-eqb, ne_eqb, get_or}
-use Rattle.std.proofs.lemmas.List.{at_drop_more, drop_all, get_or-take, length-take-le}
-use native.Mathlib.Omega.{arith}
+-- The first index at which a byte stands, as std's `position` says it.
+use Rattle.std.proofs.Common.{◌≡◌, ◌+◌, ◌-◌, ◌≤◌, ◌∙◌, ℕ, suc, cond, true, false, Bool, List, length, take, drop, eqb, ltb, refl, sym, ap, arith, rules, tests, Option, Some, None}
+use Rattle.std.specs.List.{position_or_len}
+use Rattle.std.proofs.lemmas.List.{drop-take, length-take-le, length-drop}
+use Rattle.std.proofs.lemmas.List.Sums.{prefix_len-le-length}
+use Rattle.std.proofs.lemmas.List.Recursion.{is_position_or_len}
 use package.Rattle.calltext.specs.Words.{index_of, slice}
 
--- another byte stands there
-pub missed : (b : ℕ) (xs : List ℕ) (i : ℕ) → i < length xs → eqb (get_or xs i 0) b ≡ false → index_of b (drop i xs) ≡ suc (index_of b (drop (i + 1) xs))
+-- `index_of` is std's `position_or_len`
+index_is : (b : ℕ) (xs : List ℕ) → index_of b xs ≡ position_or_len (λ x. eqb x b) xs
 unfolding index_of
-missed b xs i h e = at_drop_more (index_of b) xs i 0 h ∙ ap (λ t. cond t 0 (suc (index_of b (drop (i + 1) xs)))) e
+index_is b xs = is_position_or_len (index_of b) (λ x. eqb x b) refl (λ x rest. by (eqb x b) (index_of b rest)) xs
+  where
+    by : (t : Bool) (n : ℕ) → cond t 0 (suc n) ≡ cond t 0 (1 + n)
+    by true n = refl
+    by false n = omega arith
 
--- the byte stands there
-pub met : (b : ℕ) (xs : List ℕ) (i : ℕ) → i < length xs → eqb (get_or xs i 0) b ≡ true → index_of b (drop i xs) ≡ 0
-unfolding index_of
-met b xs i h e = at_drop_more (index_of b) xs i 0 h ∙ ap (λ t. cond t 0 (suc (index_of b (drop (i + 1) xs)))) e
+index_within : (b : ℕ) (xs : List ℕ) → index_of b xs ≤ length xs
+index_within b xs = rw (index_is b xs) (prefix_len-le-length _ xs)
 
--- nothing stands at the end
-pub none_left : (b : ℕ) (xs : List ℕ) (i : ℕ) → length xs ≤ i → index_of b (drop i xs) ≡ 0
-unfolding index_of
-none_left b xs i h = ap (index_of b) (drop_all i xs h)
-
--- the same of bytes from index `i` to `n`
-pub missed_in : (b : ℕ) (xs : List ℕ) (i n : ℕ) → i < n → n ≤ length xs → (get_or xs i 0 ≡ b → ⊥)
-    → index_of b (slice i n xs) ≡ suc (index_of b (slice (i + 1) n xs))
+-- a slice as code takes it
+slice_is : (at end : ℕ) (xs : List ℕ) → at ≤ end → slice at end xs ≡ take (end - at) (drop at xs)
 unfolding slice
-missed_in b xs i n h k e =
-    let l : i < length (take n xs) = omega (arith, h, length-take-le n xs k) in
-    missed b (take n xs) i l (ap (λ x. eqb x b) (get_or-take n xs i 0 h) ∙ ne_eqb _ _ e)
+slice_is at end xs h = ap (λ k. drop at (take k xs)) (let z : end ≡ at + (end - at) = omega arith in z) ∙ drop-take at (end - at) xs
 
-pub met_in : (b : ℕ) (xs : List ℕ) (i n : ℕ) → i < n → n ≤ length xs → get_or xs i 0 ≡ b → index_of b (slice i n xs) ≡ 0
-unfolding slice
-met_in b xs i n h k e =
-    let l : i < length (take n xs) = omega (arith, h, length-take-le n xs k) in
-    met b (take n xs) i l (ap (λ x. eqb x b) (get_or-take n xs i 0 h) ∙ eq-eqb _ _ e)
+-- what `position` answers of the place where a byte stands first
+place_some : (b : ℕ) (xs : List ℕ) (i : ℕ) → Some i ≡ cond (ltb (position_or_len (λ x. eqb x b) xs) (length xs)) (Some (position_or_len (λ x. eqb x b) xs)) None → i ≡ index_of b xs
+place_some b xs i e = by (ltb (position_or_len (λ x. eqb x b) xs) (length xs)) e ∙ sym (index_is b xs)
+  where
+    by : (t : Bool) → Some i ≡ cond t (Some (position_or_len (λ x. eqb x b) xs)) None → i ≡ position_or_len (λ x. eqb x b) xs
+    by true e = cc
+    by false e = cc
 
-pub none_in : (b : ℕ) (xs : List ℕ) (i n : ℕ) → n ≤ i → n ≤ length xs → index_of b (slice i n xs) ≡ 0
-unfolding slice
-none_in b xs i n h k = none_left b (take n xs) i (let l : length (take n xs) ≤ i = omega (arith, h, length-take-le n xs k) in l)
+place_none : (b : ℕ) (xs : List ℕ) → None ≡ cond (ltb (position_or_len (λ x. eqb x b) xs) (length xs)) (Some (position_or_len (λ x. eqb x b) xs)) None → index_of b xs ≡ length xs
+place_none b xs e =
+    let far : length xs ≤ position_or_len (λ x. eqb x b) xs = by (ltb (position_or_len (λ x. eqb x b) xs) (length xs)) refl e in
+    omega (arith, far, index_is b xs, index_within b xs)
+  where
+    by : (t : Bool) → ltb (position_or_len (λ x. eqb x b) xs) (length xs) ≡ t → None ≡ cond t (Some (position_or_len (λ x. eqb x b) xs)) None → length xs ≤ position_or_len (λ x. eqb x b) xs
+    by true f e = cc
+    by false f e = search (rules, tests)
+
+-- the same of a part of a list
+module _ (b : ℕ) (xs : List ℕ) (at end : ℕ) (r : Option ℕ) (within : at ≤ end) (inside : end ≤ length xs)
+    (told : r ≡ cond (ltb (position_or_len (λ x. eqb x b) (take (end - at) (drop at xs))) (length (take (end - at) (drop at xs)))) (Some (position_or_len (λ x. eqb x b) (take (end - at) (drop at xs)))) None) where
+  pub found : (n : ℕ) → r ≡ Some n → at + n ≡ at + index_of b (slice at end xs)
+  found n e = rw (slice_is at end xs within) (ap (λ k. at + k) (place_some b (take (end - at) (drop at xs)) n (sym e ∙ told)))
+
+  pub not_found : r ≡ None → end ≡ at + index_of b (slice at end xs)
+  not_found e =
+      rw (slice_is at end xs within)
+      (omega (
+        arith,
+        place_none b (take (end - at) (drop at xs)) (sym e ∙ told),
+        length-take-le (end - at) (drop at xs) (let z : end - at ≤ length (drop at xs) = omega (arith, length-drop at xs) in z),
+      ))

@@ -11,5 +11,3 @@ pub mod Finding
 pub mod Spaces
 -- what a line says
 pub mod Saying
--- the numbers and byte strings of a line, one after another
-pub mod Arguments

@@ -1,6 +1,6 @@
 -- The call that a line says.
 use Rattle.std.specs.Prelude.{ℕ, Bool, true, false, cond, List, eqb}
-use Rattle.std.proofs.Math.Option.{Option, none, some}
+use Rattle.std.specs.Prelude.{Option, Some, None}
 use package.Rattle.rules.specs.Limits.{max_fuel}
 use package.Rattle.calltext.specs.Text.{text, same_bytes}
 use package.Rattle.calltext.specs.Words.{word_at, spaces}
@@ -61,12 +61,12 @@ pub data Line : Type 0 where
   no_bytes : ℕ → Line
 
 unfoldable pub with_number : ℕ → Option ℕ → (ℕ → Line) → Line
-with_number k none f = no_number k
-with_number k (some n) f = f n
+with_number k None f = no_number k
+with_number k (Some n) f = f n
 
 unfoldable pub with_bytes : ℕ → Option (List ℕ) → (List ℕ → Line) → Line
-with_bytes k none f = no_bytes k
-with_bytes k (some xs) f = f xs
+with_bytes k None f = no_bytes k
+with_bytes k (Some xs) f = f xs
 
 -- A length is below a thousand millions, and a function's number has two bytes.
 abbrev pub most_length : ℕ
@@ -140,7 +140,6 @@ read_rollback line =
 
 -- the calls on a journal
 unfoldable pub journal_name : List ℕ → Name
-unfolding same_bytes
 journal_name w =
     cond (same_bytes w (text "open")) Open
     (cond (same_bytes w (text "convert")) Convert
@@ -149,7 +148,7 @@ journal_name w =
     (cond (same_bytes w (text "workshop")) Workshop Other))))
 
 unfoldable pub name_of : List ℕ → Name
-unfolding same_bytes journal_name
+unfolding journal_name
 name_of w =
     cond (same_bytes w (text "check")) Check
     (cond (same_bytes w (text "forward")) Forward

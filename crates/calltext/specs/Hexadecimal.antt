@@ -1,6 +1,6 @@
 -- Bytes as hexadecimal digits: two a byte, the high one first; `-` (45) stands for no bytes.
 use Rattle.std.specs.Prelude.{ℕ, ◌+◌, ◌*◌, ◌-◌, ◌/◌, ◌%◌, cond, List, [], ◌∷◌, ◌++◌, length, drop, eqb, ltb, leb}
-use Rattle.std.proofs.Math.Option.{Option, none, some}
+use Rattle.std.specs.Prelude.{Option, Some, None}
 
 -- the number of a digit, of either case; 16 for a byte that is none
 unfoldable pub digit_of : ℕ → ℕ
@@ -18,26 +18,26 @@ glyph_of d = cond (ltb d 10) (48 + d) (87 + d)
 
 -- bytes in front of bytes, if those are any
 unfoldable pub onto : List ℕ → Option (List ℕ) → Option (List ℕ)
-onto xs none = none
-onto xs (some ys) = some (xs ++ ys)
+onto xs None = None
+onto xs (Some ys) = Some (xs ++ ys)
 
 -- the byte of two digits, in front of the rest
 unfoldable pub byte_of : ℕ → ℕ → Option (List ℕ) → Option (List ℕ)
 unfolding onto
-byte_of high low rest = cond (leb 16 high) none (cond (leb 16 low) none (onto ((high * 16 + low) ∷ []) rest))
+byte_of high low rest = cond (leb 16 high) None (cond (leb 16 low) None (onto ((high * 16 + low) ∷ []) rest))
 
 -- the bytes that digits are
 unfoldable pub pairs_of : List ℕ → Option (List ℕ)
 unfolding digit_of byte_of
-pairs_of [] = some []
-pairs_of (x ∷ []) = none
+pairs_of [] = Some []
+pairs_of (x ∷ []) = None
 pairs_of (x ∷ y ∷ rest) = byte_of (digit_of x) (digit_of y) (pairs_of rest)
 
 -- the bytes that a word is
 unfoldable pub bytes_in : List ℕ → Option (List ℕ)
 unfolding pairs_of
-bytes_in [] = none
-bytes_in (x ∷ []) = cond (eqb x 45) (some []) none
+bytes_in [] = None
+bytes_in (x ∷ []) = cond (eqb x 45) (Some []) None
 bytes_in (x ∷ y ∷ rest) = pairs_of (x ∷ y ∷ rest)
 
 -- the byte of two digits in front of the rest; nothing if one is no digit

@@ -1,6 +1,6 @@
 -- What reading a line leaves in the buffers: the bytes of each word that is to be bytes, as far as the reading comes.
 use Rattle.std.specs.Prelude.{ℕ, ◌≡◌, Bool, true, false, cond, List, leb}
-use Rattle.std.proofs.Math.Option.{Option, none, some}
+use Rattle.std.specs.Prelude.{Option, Some, None}
 use package.Rattle.calltext.specs.Words.{word_at}
 use package.Rattle.calltext.specs.Hexadecimal.{filled}
 use package.Rattle.calltext.specs.Calls.{Line, check_line, run_line, open_line, convert_line, rollback_line, reader_line, no_call, word_count, no_number, no_bytes, name_of, read_line}
@@ -15,15 +15,15 @@ pub record ByteWords : Type 0 where
   pub value : Option ℕ
 
 abbrev pub words_of : Name → ByteWords
-words_of Check = record { program = some 2; ancillae = none; value = none }
-words_of Forward = record { program = some 5; ancillae = some 6; value = some 7 }
-words_of Backward = record { program = some 5; ancillae = some 6; value = some 7 }
-words_of Open = record { program = some 2; ancillae = some 3; value = some 4 }
-words_of Convert = record { program = some 4; ancillae = some 5; value = some 6 }
-words_of Rollback = record { program = some 3; ancillae = none; value = some 4 }
-words_of Nurse = record { program = none; ancillae = none; value = some 2 }
-words_of Workshop = record { program = none; ancillae = none; value = some 2 }
-words_of Other = record { program = none; ancillae = none; value = none }
+words_of Check = record { program = Some 2; ancillae = None; value = None }
+words_of Forward = record { program = Some 5; ancillae = Some 6; value = Some 7 }
+words_of Backward = record { program = Some 5; ancillae = Some 6; value = Some 7 }
+words_of Open = record { program = Some 2; ancillae = Some 3; value = Some 4 }
+words_of Convert = record { program = Some 4; ancillae = Some 5; value = Some 6 }
+words_of Rollback = record { program = Some 3; ancillae = None; value = Some 4 }
+words_of Nurse = record { program = None; ancillae = None; value = Some 2 }
+words_of Workshop = record { program = None; ancillae = None; value = Some 2 }
+words_of Other = record { program = None; ancillae = None; value = None }
 
 -- Does the reading come to word k, which is to be bytes? All numbers stand before it, and the first word that is wrong ends the reading.
 abbrev pub reads : Line → ℕ → Bool
@@ -40,8 +40,8 @@ reads (no_bytes n) k = leb k n
 
 -- a buffer afterwards
 abbrev pub left_in : Line → List ℕ → Option ℕ → List ℕ → List ℕ
-left_in line text none buffer = buffer
-left_in line text (some k) buffer = cond (reads line k) (filled (word_at k text) buffer) buffer
+left_in line text None buffer = buffer
+left_in line text (Some k) buffer = cond (reads line k) (filled (word_at k text) buffer) buffer
 
 -- the three buffers before and after
 pub record LeavesBuffers (line : Line) (text : List ℕ) (words : ByteWords) (p₀ anc₀ v₀ p anc v : List ℕ) : Type 0 where

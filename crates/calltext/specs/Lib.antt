@@ -7,8 +7,6 @@ pub mod Hexadecimal
 pub mod Decoded
 -- numbers as decimal digits
 pub mod Decimal
--- what a word's number is in code
-pub mod Numbered
 -- the words of a line
 pub mod Words
 -- texts as bytes

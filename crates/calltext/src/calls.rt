@@ -1,29 +1,38 @@
 // The call that a line says: its numbers, and its byte strings in buffers.
-ghost use Rattle.std.specs.Prelude.{◌≡◌, true, false, ℕ, ◌*◌, ◌≤◌, ◌<◌, List, length};
+ghost use Rattle.std.specs.Prelude.{◌≡◌, true, false, ℕ, ◌*◌, ◌≤◌, ◌<◌, List, length, IfOk, ok_or};
 ghost use Rattle.calltext.specs.Words.{word_at, spaces};
 ghost use Rattle.calltext.specs.Decimal.{number_in};
-ghost use Rattle.calltext.specs.Numbered.{Numbers};
-ghost use Rattle.calltext.specs.Hexadecimal.{bytes_in};
-ghost use Rattle.calltext.specs.Decoded.{DecodesWord};
-ghost use Rattle.calltext.specs.Calls.{journal_name, name_of, read_check, read_run, read_open, read_convert, read_rollback, read_reader, of_length, read_line};
+ghost use Rattle.calltext.specs.Calls.{most_length, name_of, read_check, read_run, read_open, read_convert, read_rollback, read_reader, of_length, read_line};
 ghost use Rattle.calltext.specs.Left.{words_of, bytes_of};
-ghost use Rattle.calltext.specs.Parsed.{Parses};
+ghost use Rattle.calltext.specs.Parsed.{DecodesArgument, counts_to, Parses};
 ghost use Rattle.calltext.specs.declared.calls.Name.TheVariants.{Check, Forward, Open, Convert, Rollback, Nurse};
+ghost use Rattle.calltext.specs.declared.calls.ParseError.TheVariants.{NoNumber};
 
-use crate::decimal::Number;
-use crate::hexadecimal::Decoded;
 use crate::{decimal, hexadecimal, words};
 use rules::MAX_FUEL;
 
 // The greatest length that a line can name.
 const MOST_LENGTH: u64 = 999999999;
 
-const MOST_FUEL: u64 = MAX_FUEL as u64;
+const MOST_FUEL: u16 = MAX_FUEL as u16;
 
 // A function's number has two bytes.
-const MOST_SHORT: u64 = 65535;
+const MOST_FUNCTION: u16 = u16::MAX;
 
-#[derive(Drop)]
+// How many spaces the line of each call has, by the arguments that it takes.
+const CHECK_SPACES: usize = 2;
+
+const RUN_SPACES: usize = 7;
+
+const OPEN_SPACES: usize = 4;
+
+const CONVERT_SPACES: usize = 6;
+
+const ROLLBACK_SPACES: usize = 4;
+
+const READER_SPACES: usize = 2;
+
+#[derive(Clone, Copy, PartialEq, Eq, Debug)]
 pub enum Name {
     Check,
     Forward,
@@ -37,14 +46,14 @@ pub enum Name {
 }
 
 // A check: the workspace's length, and how many bytes of its buffer the program is.
-#[derive(Drop)]
+#[derive(Clone, Copy)]
 pub struct CheckCall {
     pub workspace: usize,
     pub program: usize,
 }
 
 // A run, its byte strings by their lengths in their buffers.
-#[derive(Drop)]
+#[derive(Clone, Copy)]
 pub struct RunCall {
     pub backward: bool,
     pub workspace: usize,
@@ -57,7 +66,7 @@ pub struct RunCall {
 }
 
 // The calls on a journal: it stands where a value would, and the value to be held where ancillae would.
-#[derive(Drop)]
+#[derive(Clone, Copy)]
 pub struct OpenCall {
     pub workspace: usize,
     pub program: usize,
@@ -65,7 +74,7 @@ pub struct OpenCall {
     pub journal: usize,
 }
 
-#[derive(Drop)]
+#[derive(Clone, Copy)]
 pub struct ConvertCall {
     pub workspace: usize,
     pub fuel: u16,
@@ -75,7 +84,7 @@ pub struct ConvertCall {
     pub journal: usize,
 }
 
-#[derive(Drop)]
+#[derive(Clone, Copy)]
 pub struct RollbackCall {
     pub workspace: usize,
     pub fuel: u16,
@@ -84,108 +93,113 @@ pub struct RollbackCall {
 }
 
 // The nurse's reader of a journal, or the workshop's.
-#[derive(Drop)]
+#[derive(Clone, Copy)]
 pub struct ReaderCall {
     pub workshop: bool,
     pub output: usize,
     pub journal: usize,
 }
 
-// A call, or what is wrong with the line.
-#[derive(Drop)]
-pub enum Parsed {
-    Checks(CheckCall),
-    Runs(RunCall),
-    Opens(OpenCall),
-    Converts(ConvertCall),
-    RollsBack(RollbackCall),
-    Reads(ReaderCall),
+// A call, its byte strings by their lengths.
+#[derive(Clone, Copy)]
+pub enum Call {
+    Check(CheckCall),
+    Run(RunCall),
+    Open(OpenCall),
+    Convert(ConvertCall),
+    Rollback(RollbackCall),
+    Read(ReaderCall),
+}
+
+// What is wrong with a line: its first word is no call's name, it has too few or too many words, or word k is no number in its range,
+// or no bytes.
+#[derive(Clone, Copy, PartialEq, Eq, Debug)]
+pub enum ParseError {
     NoCall,
     WordCount,
     NoNumber(u8),
     NoBytes(u8),
 }
 
-// The calls on a journal, by their names.
-fn journal_name(word: &[u8]) -> Name
-    ensures { result ≡ journal_name word.now }
-{
-    if octets::equal(word, b"open") {
-        return Name::Open;
-    }
-    if octets::equal(word, b"convert") {
-        return Name::Convert;
-    }
-    if octets::equal(word, b"rollback") {
-        return Name::Rollback;
-    }
-    if octets::equal(word, b"nurse") {
-        return Name::Nurse;
-    }
-    if octets::equal(word, b"workshop") {
-        return Name::Workshop;
-    }
-    Name::Other
-}
+pub type Parsed = Result<Call, ParseError>;
 
+#[tactic(auto, unfolding(crate::specs::Calls::name_of, crate::specs::Calls::journal_name))]
 fn name_of(word: &[u8]) -> Name
     ensures { result ≡ name_of word.now }
 {
-    if octets::equal(word, b"check") {
-        return Name::Check;
+    let is = |name: &[u8]| word == name;
+    if is(b"check") {
+        Name::Check
+    } else if is(b"forward") {
+        Name::Forward
+    } else if is(b"backward") {
+        Name::Backward
+    } else if is(b"open") {
+        Name::Open
+    } else if is(b"convert") {
+        Name::Convert
+    } else if is(b"rollback") {
+        Name::Rollback
+    } else if is(b"nurse") {
+        Name::Nurse
+    } else if is(b"workshop") {
+        Name::Workshop
+    } else {
+        Name::Other
     }
-    if octets::equal(word, b"forward") {
-        return Name::Forward;
-    }
-    if octets::equal(word, b"backward") {
-        return Name::Backward;
-    }
-    journal_name(word)
 }
 
-// The name that a line starts with.
-fn first_name(line: &[u8]) -> Name
-    ensures { result ≡ name_of (word_at 0 line.now) }
+// Has the line as many spaces as its call takes?
+fn counted(line: &[u8], call: usize) -> Result<(), ParseError>
+    ensures { result ≡ counts_to call (spaces line.now) }
 {
-    name_of(words::word(line, 0))
+    if words::count_spaces(line) != call {
+        return Err(ParseError::WordCount);
+    }
+    Ok(())
 }
 
 // The number that word k is.
-fn number_at(line: &[u8], k: u8, most: u64) -> Number
+fn number_at(line: &[u8], k: u8, most: u64) -> Result<u64, ParseError>
     requires { most < 1000000000 }
-    ensures { Numbers result most (number_in most (word_at k line.now)) }
+    ensures said { result ≡ ok_or (number_in most (word_at k line.now)) (NoNumber k) }
+    ensures within { IfOk result (λ n. n ≤ most) }
 {
-    decimal::read_number(words::word(line, k), most)
+    decimal::read_number(words::word(line, k), most).ok_or(ParseError::NoNumber(k))
 }
 
-// The bytes that word k is, at the start of `out`.
-fn bytes_at(line: &[u8], k: u8, out: &mut [u8]) -> Decoded
-    requires { length line.now ≤ 2 * length out.old }
-    ensures { DecodesWord result (word_at k line.now) out.old out.new (bytes_in (word_at k line.now)) }
+fn length_at(line: &[u8], k: u8) -> Result<usize, ParseError>
+    ensures { result ≡ ok_or (number_in most_length (word_at k line.now)) (NoNumber k) }
 {
-    hexadecimal::decode(words::word(line, k), out)
+    Ok(number_at(line, k, MOST_LENGTH)? as usize)
+}
+
+fn short_at(line: &[u8], k: u8, most: u16) -> Result<u16, ParseError>
+    ensures { result ≡ ok_or (number_in most (word_at k line.now)) (NoNumber k) }
+{
+    Ok(number_at(line, k, u64::from(most))? as u16)
+}
+
+// The bytes that word k is, at the start of `out`: how many.
+fn bytes_at(line: &[u8], k: u8, out: &mut [u8]) -> Result<usize, ParseError>
+    requires { length line.now ≤ 2 * length out.old }
+    ensures { DecodesArgument result k (word_at k line.now) out.old out.new }
+{
+    hexadecimal::decode(words::word(line, k), out).ok_or(ParseError::NoBytes(k))
 }
 
 // The calls, each lent the buffers of the byte strings that it takes, whatever the other buffers hold.
+// Kept: buffers one by one in place of a struct of three, since a call is lent those alone that it takes.
 
 fn check_call(line: &[u8], program: &mut [u8]) -> Parsed
     requires { length line.now ≤ 2 * length program.old }
     ensures { (anc v : List ℕ) → Parses result line.now (words_of Check) program.old anc v program.new anc v (of_length (spaces line.now) 2 (read_check line.now)) }
 {
-    let count = words::count_spaces(line);
-    if count != 2 {
-        return Parsed::WordCount;
-    }
-    let Number::Is(workspace) = number_at(line, 1, MOST_LENGTH) else {
-        return Parsed::NoNumber(1);
-    };
-    let Decoded::Bytes(n) = bytes_at(line, 2, program) else {
-        return Parsed::NoBytes(2);
-    };
-    Parsed::Checks(CheckCall {
-        workspace: workspace as usize,
-        program: n,
-    })
+    counted(line, CHECK_SPACES)?;
+    Ok(Call::Check(CheckCall {
+        workspace: length_at(line, 1)?,
+        program: bytes_at(line, 2, program)?,
+    }))
 }
 
 fn run_call(
@@ -200,41 +214,17 @@ fn run_call(
     requires line_len_bound_3 { length line.now ≤ 2 * length value.old }
     ensures { Parses result line.now (words_of Forward) program.old ancillae.old value.old program.new ancillae.new value.new (of_length (spaces line.now) 7 (read_run backward line.now)) }
 {
-    let count = words::count_spaces(line);
-    if count != 7 {
-        return Parsed::WordCount;
-    }
-    let Number::Is(workspace) = number_at(line, 1, MOST_LENGTH) else {
-        return Parsed::NoNumber(1);
-    };
-    let Number::Is(output) = number_at(line, 2, MOST_LENGTH) else {
-        return Parsed::NoNumber(2);
-    };
-    let Number::Is(fuel) = number_at(line, 3, MOST_FUEL) else {
-        return Parsed::NoNumber(3);
-    };
-    let Number::Is(function) = number_at(line, 4, MOST_SHORT) else {
-        return Parsed::NoNumber(4);
-    };
-    let Decoded::Bytes(p) = bytes_at(line, 5, program) else {
-        return Parsed::NoBytes(5);
-    };
-    let Decoded::Bytes(a) = bytes_at(line, 6, ancillae) else {
-        return Parsed::NoBytes(6);
-    };
-    let Decoded::Bytes(v) = bytes_at(line, 7, value) else {
-        return Parsed::NoBytes(7);
-    };
-    Parsed::Runs(RunCall {
+    counted(line, RUN_SPACES)?;
+    Ok(Call::Run(RunCall {
         backward,
-        workspace: workspace as usize,
-        output: output as usize,
-        fuel: fuel as u16,
-        function: function as u16,
-        program: p,
-        ancillae: a,
-        value: v,
-    })
+        workspace: length_at(line, 1)?,
+        output: length_at(line, 2)?,
+        fuel: short_at(line, 3, MOST_FUEL)?,
+        function: short_at(line, 4, MOST_FUNCTION)?,
+        program: bytes_at(line, 5, program)?,
+        ancillae: bytes_at(line, 6, ancillae)?,
+        value: bytes_at(line, 7, value)?,
+    }))
 }
 
 fn open_call(line: &[u8], program: &mut [u8], ancillae: &mut [u8], value: &mut [u8]) -> Parsed
@@ -243,28 +233,13 @@ fn open_call(line: &[u8], program: &mut [u8], ancillae: &mut [u8], value: &mut [
     requires line_len_bound_3 { length line.now ≤ 2 * length value.old }
     ensures { Parses result line.now (words_of Open) program.old ancillae.old value.old program.new ancillae.new value.new (of_length (spaces line.now) 4 (read_open line.now)) }
 {
-    let count = words::count_spaces(line);
-    if count != 4 {
-        return Parsed::WordCount;
-    }
-    let Number::Is(workspace) = number_at(line, 1, MOST_LENGTH) else {
-        return Parsed::NoNumber(1);
-    };
-    let Decoded::Bytes(p) = bytes_at(line, 2, program) else {
-        return Parsed::NoBytes(2);
-    };
-    let Decoded::Bytes(h) = bytes_at(line, 3, ancillae) else {
-        return Parsed::NoBytes(3);
-    };
-    let Decoded::Bytes(j) = bytes_at(line, 4, value) else {
-        return Parsed::NoBytes(4);
-    };
-    Parsed::Opens(OpenCall {
-        workspace: workspace as usize,
-        program: p,
-        held: h,
-        journal: j,
-    })
+    counted(line, OPEN_SPACES)?;
+    Ok(Call::Open(OpenCall {
+        workspace: length_at(line, 1)?,
+        program: bytes_at(line, 2, program)?,
+        held: bytes_at(line, 3, ancillae)?,
+        journal: bytes_at(line, 4, value)?,
+    }))
 }
 
 fn convert_call(line: &[u8], program: &mut [u8], ancillae: &mut [u8], value: &mut [u8]) -> Parsed
@@ -273,36 +248,15 @@ fn convert_call(line: &[u8], program: &mut [u8], ancillae: &mut [u8], value: &mu
     requires line_len_bound_3 { length line.now ≤ 2 * length value.old }
     ensures { Parses result line.now (words_of Convert) program.old ancillae.old value.old program.new ancillae.new value.new (of_length (spaces line.now) 6 (read_convert line.now)) }
 {
-    let count = words::count_spaces(line);
-    if count != 6 {
-        return Parsed::WordCount;
-    }
-    let Number::Is(workspace) = number_at(line, 1, MOST_LENGTH) else {
-        return Parsed::NoNumber(1);
-    };
-    let Number::Is(fuel) = number_at(line, 2, MOST_FUEL) else {
-        return Parsed::NoNumber(2);
-    };
-    let Number::Is(function) = number_at(line, 3, MOST_SHORT) else {
-        return Parsed::NoNumber(3);
-    };
-    let Decoded::Bytes(p) = bytes_at(line, 4, program) else {
-        return Parsed::NoBytes(4);
-    };
-    let Decoded::Bytes(a) = bytes_at(line, 5, ancillae) else {
-        return Parsed::NoBytes(5);
-    };
-    let Decoded::Bytes(j) = bytes_at(line, 6, value) else {
-        return Parsed::NoBytes(6);
-    };
-    Parsed::Converts(ConvertCall {
-        workspace: workspace as usize,
-        fuel: fuel as u16,
-        function: function as u16,
-        program: p,
-        ancillae: a,
-        journal: j,
-    })
+    counted(line, CONVERT_SPACES)?;
+    Ok(Call::Convert(ConvertCall {
+        workspace: length_at(line, 1)?,
+        fuel: short_at(line, 2, MOST_FUEL)?,
+        function: short_at(line, 3, MOST_FUNCTION)?,
+        program: bytes_at(line, 4, program)?,
+        ancillae: bytes_at(line, 5, ancillae)?,
+        journal: bytes_at(line, 6, value)?,
+    }))
 }
 
 fn rollback_call(line: &[u8], program: &mut [u8], value: &mut [u8]) -> Parsed
@@ -310,49 +264,25 @@ fn rollback_call(line: &[u8], program: &mut [u8], value: &mut [u8]) -> Parsed
     requires line_len_bound_2 { length line.now ≤ 2 * length value.old }
     ensures { (anc : List ℕ) → Parses result line.now (words_of Rollback) program.old anc value.old program.new anc value.new (of_length (spaces line.now) 4 (read_rollback line.now)) }
 {
-    let count = words::count_spaces(line);
-    if count != 4 {
-        return Parsed::WordCount;
-    }
-    let Number::Is(workspace) = number_at(line, 1, MOST_LENGTH) else {
-        return Parsed::NoNumber(1);
-    };
-    let Number::Is(fuel) = number_at(line, 2, MOST_FUEL) else {
-        return Parsed::NoNumber(2);
-    };
-    let Decoded::Bytes(p) = bytes_at(line, 3, program) else {
-        return Parsed::NoBytes(3);
-    };
-    let Decoded::Bytes(j) = bytes_at(line, 4, value) else {
-        return Parsed::NoBytes(4);
-    };
-    Parsed::RollsBack(RollbackCall {
-        workspace: workspace as usize,
-        fuel: fuel as u16,
-        program: p,
-        journal: j,
-    })
+    counted(line, ROLLBACK_SPACES)?;
+    Ok(Call::Rollback(RollbackCall {
+        workspace: length_at(line, 1)?,
+        fuel: short_at(line, 2, MOST_FUEL)?,
+        program: bytes_at(line, 3, program)?,
+        journal: bytes_at(line, 4, value)?,
+    }))
 }
 
 fn reader_call(line: &[u8], workshop: bool, value: &mut [u8]) -> Parsed
     requires { length line.now ≤ 2 * length value.old }
     ensures { (p anc : List ℕ) → Parses result line.now (words_of Nurse) p anc value.old p anc value.new (of_length (spaces line.now) 2 (read_reader workshop line.now)) }
 {
-    let count = words::count_spaces(line);
-    if count != 2 {
-        return Parsed::WordCount;
-    }
-    let Number::Is(output) = number_at(line, 1, MOST_LENGTH) else {
-        return Parsed::NoNumber(1);
-    };
-    let Decoded::Bytes(j) = bytes_at(line, 2, value) else {
-        return Parsed::NoBytes(2);
-    };
-    Parsed::Reads(ReaderCall {
+    counted(line, READER_SPACES)?;
+    Ok(Call::Read(ReaderCall {
         workshop,
-        output: output as usize,
-        journal: j,
-    })
+        output: length_at(line, 1)?,
+        journal: bytes_at(line, 2, value)?,
+    }))
 }
 
 // The call that a line says, its byte strings at the starts of the buffers, each of which can hold as many bytes as a line has.
@@ -362,7 +292,7 @@ pub fn parse(line: &[u8], program: &mut [u8], ancillae: &mut [u8], value: &mut [
     requires line_len_bound_3 { length line.now ≤ 2 * length value.old }
     ensures { Parses result line.now (bytes_of line.now) program.old ancillae.old value.old program.new ancillae.new value.new (read_line line.now) }
 {
-    match first_name(line) {
+    match name_of(words::word(line, 0)) {
         Name::Check => check_call(line, program),
         Name::Forward => run_call(line, false, program, ancillae, value),
         Name::Backward => run_call(line, true, program, ancillae, value),
@@ -371,6 +301,6 @@ pub fn parse(line: &[u8], program: &mut [u8], ancillae: &mut [u8], value: &mut [
         Name::Rollback => rollback_call(line, program, value),
         Name::Nurse => reader_call(line, false, value),
         Name::Workshop => reader_call(line, true, value),
-        Name::Other => Parsed::NoCall,
+        Name::Other => Err(ParseError::NoCall),
     }
 }

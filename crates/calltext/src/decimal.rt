@@ -1,42 +1,32 @@
 // Numbers as decimal digits.
-ghost use Rattle.std.specs.Prelude.{◌≡◌, ◌+◌, ◌≤◌, ◌<◌, length};
+ghost use Rattle.std.specs.Prelude.{◌≡◌, ◌+◌, ◌≤◌, ◌<◌, length, IfSome};
 ghost use Rattle.calltext.specs.Wrote.{Wrote};
 ghost use Rattle.calltext.specs.Decimal.{number_in, decimal_text};
-ghost use Rattle.calltext.specs.Numbered.{Numbers};
 
-// The number that a word is; or it is none, or too large.
-#[derive(Drop)]
-pub enum Number {
-    Is(u64),
-    Not,
-}
+// So many digits there are.
+const BASE: u64 = 10;
 
-// The number that a word is, at most `most`.
-pub fn read_number(word: &[u8], most: u64) -> Number
+// The number that a word is, if it is one and at most `most`.
+pub fn read_number(word: &[u8], most: u64) -> Option<u64>
     requires { most < 1000000000000000000 }
-    ensures { Numbers result most (number_in most word.now) }
+    ensures said { result ≡ number_in most word.now }
+    ensures within { IfSome result (λ n. n ≤ most) }
 {
-    if word.len() == 0 {
-        return Number::Not;
+    if word.is_empty() {
+        return None;
     }
-    let mut i: usize = 0;
     let mut n: u64 = 0;
-    while i < word.len() {
-        let b = word[i];
-        if b < 48 {
-            return Number::Not;
+    for b in word {
+        if !b.is_ascii_digit() {
+            return None;
         }
-        if 57 < b {
-            return Number::Not;
-        }
-        let next = n * 10 + (b - 48) as u64;
+        let next = n * BASE + u64::from(*b - b'0');
         if most < next {
-            return Number::Not;
+            return None;
         }
         n = next;
-        i += 1;
     }
-    Number::Is(n)
+    Some(n)
 }
 
 // The digits of a number, put into `out` from `at` on: where they end.
@@ -44,11 +34,11 @@ pub fn put_number(n: u64, out: &mut [u8], at: usize) -> usize
     requires { at + length (decimal_text n) ≤ length out.old }
     ensures { Wrote out.old out.new at result (decimal_text n) }
 {
-    if n < 10 {
-        out[at] = 48 + n as u8;
+    if n < BASE {
+        out[at] = b'0' + n as u8;
         return at + 1;
     }
-    let end = put_number(n / 10, out, at);
-    out[end] = 48 + (n % 10) as u8;
+    let end = put_number(n / BASE, out, at);
+    out[end] = b'0' + (n % BASE) as u8;
     end + 1
 }

@@ -1,91 +1,69 @@
 // Bytes as hexadecimal digits, two a byte; a `-` stands for no bytes.
-ghost use Rattle.std.specs.Prelude.{◌≡◌, ◌+◌, ◌*◌, ◌≤◌, ◌<◌, length};
+ghost use Rattle.std.specs.Prelude.{◌≡◌, ◌+◌, ◌*◌, ◌≤◌, ◌<◌, length, MatchOption};
 ghost use Rattle.calltext.specs.Wrote.{Wrote};
 ghost use Rattle.calltext.specs.Hexadecimal.{digit_of, glyph_of, pairs_of, bytes_in, hex_text};
 ghost use Rattle.calltext.specs.Decoded.{DecodesWord};
 
-// Bytes at the start of a buffer, so many of them; or the word is none.
-#[derive(Drop)]
-pub enum Decoded {
-    Bytes(usize),
-    Not,
-}
+// So many digits there are, and so many of them are decimal.
+const BASE: u8 = 16;
 
-// A digit's number, or 16 for a byte that is no digit.
-fn digit(b: u8) -> u8
-    ensures { result ≡ digit_of b }
+const LETTERS_FROM: u8 = 10;
+
+// So many digits a byte has.
+const DIGITS: usize = 2;
+
+// A digit's number, of either case, if the byte is a digit.
+#[tactic(auto, unfolding(crate::specs::Hexadecimal::digit_of))]
+fn digit(b: u8) -> Option<u8>
+    ensures { MatchOption result (digit_of b ≡ 16) (λ d. (d ≡ digit_of b) × (d < 16)) }
 {
-    if b < 48 {
-        return 16;
+    match b {
+        b'0'..=b'9' => Some(b - b'0'),
+        b'A'..=b'F' => Some(b - b'A' + LETTERS_FROM),
+        b'a'..=b'f' => Some(b - b'a' + LETTERS_FROM),
+        _ => None,
     }
-    if b <= 57 {
-        return b - 48;
-    }
-    if b < 65 {
-        return 16;
-    }
-    if b <= 70 {
-        return b - 55;
-    }
-    if b < 97 {
-        return 16;
-    }
-    if b <= 102 {
-        return b - 87;
-    }
-    16
 }
 
 // The digit of a number, in lower case.
+#[tactic(auto, unfolding(crate::specs::Hexadecimal::glyph_of))]
 fn glyph(d: u8) -> u8
     requires { d < 16 }
     ensures { result ≡ glyph_of d }
 {
-    if d < 10 { 48 + d } else { 87 + d }
+    if d < LETTERS_FROM {
+        b'0' + d
+    } else {
+        b'a' + (d - LETTERS_FROM)
+    }
 }
 
-// The bytes that the digits are, put at the start of `out`.
-fn pairs(word: &[u8], out: &mut [u8]) -> Decoded
+// The bytes that the digits are, put at the start of `out`: how many.
+fn pairs(word: &[u8], out: &mut [u8]) -> Option<usize>
     requires { length word.now ≤ 2 * length out.old }
     ensures { DecodesWord result word.now out.old out.new (pairs_of word.now) }
 {
-    let mut i: usize = 0;
+    let mut left = word;
     let mut n: usize = 0;
-    while i < word.len() {
-        let j = i + 1;
-        if word.len() <= j {
-            return Decoded::Not;
-        }
-        let high = digit(word[i]);
-        let low = digit(word[j]);
-        if 16 <= high {
-            return Decoded::Not;
-        }
-        if 16 <= low {
-            return Decoded::Not;
-        }
-        out[n] = high * 16 + low;
+    // Kept: a loop by a pattern, which counts no index of the word: each turn takes two digits off its front.
+    while let [high, low, rest @ ..] = left {
+        out[n] = digit(*high)? * BASE + digit(*low)?;
         n += 1;
-        i += 2;
+        left = rest;
     }
-    Decoded::Bytes(n)
+    left.is_empty().then_some(n)
 }
 
-// The bytes that a word is, put at the start of `out`.
-pub fn decode(word: &[u8], out: &mut [u8]) -> Decoded
+// The bytes that a word is, put at the start of `out`: how many.
+pub fn decode(word: &[u8], out: &mut [u8]) -> Option<usize>
     requires { length word.now ≤ 2 * length out.old }
     ensures { DecodesWord result word.now out.old out.new (bytes_in word.now) }
 {
-    if word.len() == 0 {
-        return Decoded::Not;
+    match word {
+        [] => None,
+        [only] => (*only == b'-').then_some(0),
+        _ => pairs(word, out),
     }
-    if word.len() == 1 {
-        if word[0] == 45 {
-            return Decoded::Bytes(0);
-        }
-        return Decoded::Not;
-    }
-    pairs(word, out)
 }
 
 // The word that bytes are, put into `out` from `at` on: where it ends.
@@ -93,18 +71,15 @@ pub fn encode(bytes: &[u8], out: &mut [u8], at: usize) -> usize
     requires { at + 2 * length bytes.now < length out.old }
     ensures { Wrote out.old out.new at result (hex_text bytes.now) }
 {
-    if bytes.len() == 0 {
-        out[at] = 45;
+    if bytes.is_empty() {
+        out[at] = b'-';
         return at + 1;
     }
-    let mut i: usize = 0;
     let mut end = at;
-    while i < bytes.len() {
-        let b = bytes[i];
-        out[end] = glyph(b / 16);
-        out[end + 1] = glyph(b % 16);
-        end += 2;
-        i += 1;
+    for b in bytes {
+        out[end] = glyph(*b / BASE);
+        out[end + 1] = glyph(*b % BASE);
+        end += DIGITS;
     }
     end
 }

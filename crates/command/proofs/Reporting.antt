@@ -9,10 +9,11 @@ use package.Rattle.rules.specs.Val.{size, encode}
 use package.Rattle.rules.proofs.Val.{length-encode}
 use package.Rattle.calls.specs.Answer.{Answer, accepted, refused, ◌>>=◌}
 use package.Rattle.calls.specs.Runs.{Ran, written}
+use Rattle.std.specs.Prelude.{Result, Ok, Err}
+use package.Rattle.answers.specs.declared.Done.{Done}
+use package.Rattle.answers.specs.declared.Shown.{Shown}
 use package.Rattle.answers.specs.Answers.{number_of, place_of, run_answer, summary}
 use package.Rattle.answers.specs.declared.Refusal.{Refusal}
-use package.Rattle.answers.specs.declared.RunAnswer.{RunAnswer}
-use package.Rattle.answers.specs.declared.RunAnswer.TheVariants.{Ran as Done, Refused}
 use package.Rattle.calltext.specs.Answers.{value_line}
 use package.Rattle.messages.specs.Replies.{length_of, refusal_text}
 use package.Rattle.command.specs.Reports.{refused_report, run_report, filled_report}
@@ -27,10 +28,10 @@ filled : Answer (ℕ × ℕ) → ℕ
 filled (accepted a) = a.0
 filled (refused n p) = 0
 
-filled-answer : (r : RunAnswer) → length_of r ≡ filled (run_answer r)
+filled-answer : (r : Result Done Refusal) → length_of r ≡ filled (run_answer r)
 unfolding filled
-filled-answer (Done d) = refl
-filled-answer (Refused r) = refl
+filled-answer (Ok d) = refl
+filled-answer (Err r) = refl
 
 -- a value that fills an output is no longer than it
 fills-within : (x : Answer Ran) (out : List ℕ) → length (written x out) ≡ length out → filled (summary x) ≤ length out
@@ -39,7 +40,7 @@ fills-within (accepted r) out h = omega (arith, h, length-append (encode r.value
 fills-within (refused n p) out h = omega arith
 
 -- an answered length is within the output
-pub within : (r : RunAnswer) (x : Answer Ran) (out : List ℕ) {out' : List ℕ}
+pub within : (r : Result Done Refusal) (x : Answer Ran) (out : List ℕ) {out' : List ℕ}
     → run_answer r ≡ summary x → out' ≡ written x out → length out' ≡ length out → length_of r ≤ length out'
 within r x out {out'} a f k =
     omega (arith, filled-answer r, ap filled a, fills-within x out (ap length (sym f) ∙ k), k)
@@ -50,6 +51,6 @@ read_back (accepted r) out = ap (λ v. value_line v r.steps) (take_at (encode r.
 read_back (refused n p) out = refl
 
 -- a run's report is the call's
-pub run_reported : (r : RunAnswer) (x : Answer Ran) (out : List ℕ) {out' : List ℕ}
+pub run_reported : (r : Result Done Refusal) (x : Answer Ran) (out : List ℕ) {out' : List ℕ}
     → run_answer r ≡ summary x → out' ≡ written x out → filled_report (run_answer r) out' ≡ run_report x
 run_reported r x out {out'} a f = ap (λ y. filled_report y out') a ∙ ap (λ o. filled_report (summary x) o) f ∙ read_back x out

@@ -9,33 +9,25 @@ ghost use Rattle.command.specs.Plays.{told_text, ended_text, unopened_text};
 use crate::reports;
 use answers::Refusal;
 use calltext::answers as texts;
-use replay::replies::ReplayAnswer;
-
-const OPENED: u8 = 0x41;
-
-const HELD: u8 = 0x42;
-
-const REFUSED: u8 = 0x43;
+use replay::replies::{ReplayAnswer, ReplayError};
+use replay::told::{DETAIL, HELD, NUMBER, OPENED, REFUSED};
 
 // The line of the call that seven bytes answer; no bytes where they answer none.
+// Kept: no bytes in place of a None, since `told_text` is what docs/ARCHITECTURE.md names of it.
+#[tactic(auto, unfolding(crate::specs::Plays::told_text))]
 pub fn told_line(line: &[u8], out: &mut [u8]) -> usize
     requires in_bounds { 7 ≤ length line.now }
     requires in_bounds_2 { 64 ≤ length out.old }
     ensures { Wrote out.old out.new 0 result (told_text line.now) }
 {
-    let kind = line[0];
-    let number = octets::read16(line, 1);
-    let detail = octets::read32(line, 3);
-    if kind == OPENED {
-        return texts::put(b"ok\n", out, 0);
+    let number = u64::from(octets::read16(line, NUMBER));
+    let detail = u64::from(octets::read32(line, DETAIL));
+    match line[0] {
+        OPENED => texts::put(b"ok\n", out, 0),
+        HELD => reports::held(number, detail, out),
+        REFUSED => texts::refused_line(number, detail, out),
+        _ => texts::put(b"", out, 0),
     }
-    if kind == HELD {
-        return reports::held(number as u64, detail as u64, out);
-    }
-    if kind == REFUSED {
-        return texts::refused_line(number as u64, detail as u64, out);
-    }
-    texts::put(b"", out, 0)
 }
 
 // A number between two texts.
@@ -60,27 +52,28 @@ fn unopened(r: Refusal, out: &mut [u8]) -> usize
 }
 
 // How the playing ended.
+#[tactic(auto, unfolding(crate::specs::Plays::ended_text))]
 pub fn ended_line(answer: ReplayAnswer, out: &mut [u8]) -> usize
     requires { 512 ≤ length out.old }
     ensures { Wrote out.old out.new 0 result (ended_text (reply_of answer)) }
 {
     match answer {
-        ReplayAnswer::Played(k) => put_between(b"played ", k as u64, b"\n", out),
-        ReplayAnswer::Malformed(at) => put_between(
+        Ok(k) => put_between(b"played ", k as u64, b"\n", out),
+        Err(ReplayError::Malformed(at)) => put_between(
             b"malformed at ",
             at as u64,
             b": no call stands there\n",
             out,
         ),
-        ReplayAnswer::TooWide(at) => put_between(
+        Err(ReplayError::TooWide(at)) => put_between(
             b"too wide at ",
             at as u64,
             b": the call's buffer is longer than 131072 bytes\n",
             out,
         ),
-        ReplayAnswer::ShortAnswers => texts::put(b"answers do not fit\n", out, 0),
-        ReplayAnswer::Unopened(r) => unopened(r, out),
-        ReplayAnswer::Cut(at) => put_between(
+        Err(ReplayError::ShortAnswers) => texts::put(b"answers do not fit\n", out, 0),
+        Err(ReplayError::Unopened(r)) => unopened(r, out),
+        Err(ReplayError::Cut(at)) => put_between(
             b"cut at ",
             at as u64,
             b": the call's buffer would cut the journal's fields\n",

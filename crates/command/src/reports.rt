@@ -19,49 +19,53 @@ pub(crate) fn refusal(r: Refusal, out: &mut [u8]) -> usize
 }
 
 // What a check answered.
+#[tactic(auto, unfolding(crate::specs::Reports::check_report))]
 pub fn check_report(answer: CheckAnswer, out: &mut [u8]) -> usize
     requires { 256 ≤ length out.old }
     ensures { Wrote out.old out.new 0 result (check_report (check_answer answer)) }
 {
     match answer {
-        CheckAnswer::Accepted => texts::put(b"ok\n", out, 0),
-        CheckAnswer::Refused(r) => refusal(r, out),
+        Ok(()) => texts::put(b"ok\n", out, 0),
+        Err(r) => refusal(r, out),
     }
 }
 
 // What a run answered, whose value the output starts with.
+#[tactic(auto, unfolding(crate::specs::Reports::filled_report, messages::specs::Replies::run_text))]
 pub fn run_report(answer: RunAnswer, output: &[u8], out: &mut [u8]) -> usize
     requires answer_in_bounds { length_of answer ≤ length output.now }
     requires output_in_bounds { 2 * length output.now + 256 ≤ length out.old }
     ensures { Wrote out.old out.new 0 result (filled_report (run_answer answer) output.now) }
 {
     match answer {
-        RunAnswer::Ran(d) => replies::run_line(RunAnswer::Ran(d), output, out),
-        RunAnswer::Refused(r) => refusal(r, out),
+        Ok(d) => replies::run_line(Ok(d), output, out),
+        Err(r) => refusal(r, out),
     }
 }
 
 // What the nurse's reader answered, which the output starts with.
+#[tactic(auto, unfolding(crate::specs::Reports::shown_report, messages::specs::Replies::nurse_text))]
 pub fn nurse_report(answer: NurseAnswer, output: &[u8], out: &mut [u8]) -> usize
     requires answer_in_bounds { seen_length answer ≤ length output.now }
     requires output_in_bounds { 2 * length output.now + 256 ≤ length out.old }
     ensures { Wrote out.old out.new 0 result (shown_report (nurse_answer answer) output.now) }
 {
     match answer {
-        NurseAnswer::Shows(s) => replies::nurse_line(NurseAnswer::Shows(s), output, out),
-        NurseAnswer::Refused(r) => refusal(r, out),
+        Ok(s) => replies::nurse_line(Ok(s), output, out),
+        Err(r) => refusal(r, out),
     }
 }
 
 // What a call that writes bytes answered, which the output starts with.
+#[tactic(auto, unfolding(crate::specs::Reports::wrote_report, messages::specs::Replies::write_text))]
 pub fn write_report(answer: WriteAnswer, output: &[u8], out: &mut [u8]) -> usize
     requires answer_in_bounds { written_length answer ≤ length output.now }
     requires output_in_bounds { 2 * length output.now + 256 ≤ length out.old }
     ensures { Wrote out.old out.new 0 result (wrote_report (write_answer answer) output.now) }
 {
     match answer {
-        WriteAnswer::Wrote(n) => replies::write_line(WriteAnswer::Wrote(n), output, out),
-        WriteAnswer::Refused(r) => refusal(r, out),
+        Ok(n) => replies::write_line(Ok(n), output, out),
+        Err(r) => refusal(r, out),
     }
 }
 
@@ -74,13 +78,10 @@ pub(crate) fn put_figure(n: u64, out: &mut [u8], at: usize) -> usize
 }
 
 // The length of the held record, and the steps.
+#[tactic(auto, unfolding(crate::specs::Reports::held_text, calltext::specs::Answers::two_numbers))]
 pub(crate) fn held(len: u64, steps: u64, out: &mut [u8]) -> usize
     requires { 64 ≤ length out.old }
     ensures { Wrote out.old out.new 0 result (held_text len steps) }
 {
-    let named = texts::put(b"held ", out, 0);
-    let counted = put_figure(len, out, named);
-    let spaced = texts::put(b" ", out, counted);
-    let stepped = put_figure(steps, out, spaced);
-    texts::put(b"\n", out, stepped)
+    texts::two_numbers(b"held ", len, b" ", steps, b"\n", out)
 }

@@ -5,9 +5,12 @@ use borrow.Author.Tests.{lt-ltb, le-ltb, leb-true}
 use mathlib.Core.Path.{◌≡◌, refl, sym, ap, ap₂, subst, ◌∙◌}
 use mathlib.Core.Bool.{Bool, true, false}
 use mathlib.Core.Option.{some}
+use Rattle.std.specs.Prelude.{Option, Result, Ok, Err}
+use Rattle.std.specs.Option.{ok_or}
 use mathlib.Core.List.{List}
 use lib.ListN.{length, take}
 use lib.Dec.{ltb, leb}
+use lib.Seq.{length-take-le}
 use package.Rattle.rules.specs.Limits.{max_value_bytes, max_conversions}
 use package.Rattle.rules.specs.Val.{encode}
 use package.Rattle.rules.specs.Term.{Program}
@@ -18,21 +21,18 @@ use package.Rattle.calls.proofs.Answer.{via, stops, require_yes, require-no, pre
 use package.Rattle.calls.proofs.Values.{value-encode}
 use package.Rattle.valuebytes.specs.Ends.{is_some, is_value, value_in, values_in}
 use package.Rattle.journal.specs.declared.places.Places.{Places}
-use package.Rattle.journal.specs.declared.places.Survey.{Survey}
-use package.Rattle.journal.specs.declared.places.Survey.TheVariants as survey
 use package.Rattle.journal.specs.Places.{journal_in, Surveyed, Stands}
 use package.Rattle.journal.specs.Turns.{are_values, conversion, converted}
-use package.Rattle.journal.proofs.Stands.{surveyed_as, unformed, standing, count-place}
+use package.Rattle.journal.proofs.Stands.{standing, count-place}
 use package.Rattle.journal.proofs.Turns.{values_in_is, is_value_lem}
 use package.Rattle.answers.specs.declared.Done.{Done}
 use package.Rattle.answers.specs.declared.Refusal.{Refusal}
 use package.Rattle.answers.specs.declared.Refusal.TheVariants.{Journal, Full}
-use package.Rattle.answers.specs.declared.RunAnswer.{RunAnswer}
-use package.Rattle.answers.specs.declared.RunAnswer.TheVariants as runs
 use package.Rattle.answers.specs.Answers.{refuses}
 use package.Rattle.requests.specs.Runs.{run_of, called, RunMeans}
 use package.Rattle.conversions.specs.Turns.{convert_of, TurnMeans}
 use package.Rattle.conversions.specs.Converting.{converted_to}
+use package.Rattle.conversions.proofs.Forms.{not_read}
 use package.Rattle.conversions.proofs.Values.{Carried, carried, not_carried, Into, ran-into, refused-into, front_is_value, front-value_in, turn-refused, turn-full, turn-written}
 
 ----------------------------------------------------------------
@@ -46,12 +46,12 @@ module _ (j held anc : List ℕ) {b : Bool} (fit : (f s : ℕ) → b ≡ leb (le
   -- and is written
   pub convert_kept : b ≡ true → is_value held ≡ true → (d : Done) → d.len ≡ length held → (fn : ℕ) {n : ℕ} → n ≡ d.steps
       → {j' : List ℕ} → j' ≡ write_out (length j) (converted (journal_in j) (value_in held) (conversion fn n (values_in anc)))
-      → TurnMeans (runs.Ran d) (converted_to j held d.steps fn anc) j j'
+      → TurnMeans (Ok d) (converted_to j held d.steps fn anc) j j'
   convert_kept t is d long fn e w = turn-written _ _ _ j d (sym (fit fn d.steps) ∙ t) (long ∙ (is_value_lem held is).long) refl
       (w ∙ ap (λ n. write_out (length j) (converted (journal_in j) (value_in held) (conversion fn n (values_in anc)))) e)
 
   -- or it does not fit
-  pub convert_unfit : b ≡ false → (s fn : ℕ) → TurnMeans (runs.Refused Full) (converted_to j held s fn anc) j j
+  pub convert_unfit : b ≡ false → (s fn : ℕ) → TurnMeans (Err Full) (converted_to j held s fn anc) j j
   convert_unfit t s fn = turn-full _ _ _ j (sym (fit fn s) ∙ t)
 
 ----------------------------------------------------------------
@@ -59,23 +59,23 @@ module _ (j held anc : List ℕ) {b : Bool} (fit : (f s : ℕ) → b ≡ leb (le
 
 module _ (P : Program) (fuel fn : ℕ) (anc j : List ℕ) where
   -- 18
-  pub convert_malformed : {r : Survey} → Surveyed r j → r ≡ survey.Malformed → TurnMeans (runs.Refused Journal) (convert_of P fuel fn anc j) j j
+  pub convert_malformed : {o : Option Places} → Surveyed o j → {e : Refusal} → ok_or o Journal ≡ Err e → {r : Result Done Refusal} → r ≡ Err e
+      → TurnMeans r (convert_of P fuel fn anc j) j j
   unfolding convert_of
-  convert_malformed s e = turn-refused Journal j (stops _ (present_none 18 (unformed j (surveyed_as s e)))) (refuses {n = 18} (omega arith))
+  convert_malformed {o} S is w = let u = not_read Journal o S is in rw w (rw u.0 (turn-refused Journal j (stops _ (present_none 18 u.1)) (refuses {n = 18} (omega arith))))
 
   module _ {pl : Places} (s : Stands pl j) where
     there : read_journal j ≡ some (journal_in j)
     there = (standing pl j s).read
 
     -- 20: as many conversions stand as may
-    pub convert_many : max_conversions ≤ pl.count → TurnMeans (runs.Refused Full) (convert_of P fuel fn anc j) j j
+    pub convert_many : max_conversions ≤ pl.count → TurnMeans (Err Full) (convert_of P fuel fn anc j) j j
     unfolding convert_of max_conversions
     convert_many l = turn-refused Full j
         (via _ (present_some 18 there) (stops _ (require-no 20 0 (le-ltb (length (journal_in j).entries) max_conversions (omega (arith, count-place (standing pl j s)))))))
         (refuses {n = 20} (omega arith))
 
-    module _ (less : pl.count < max_conversions) {bytes : List ℕ} (held_is : bytes ≡ encode (journal_in j).held) (out out' : List ℕ) (room : length out ≡ max_value_bytes) {a : RunAnswer}
-        (R : RunMeans a (called false P fn anc bytes fuel (length out)) out out') where
+    module _ (less : pl.count < max_conversions) {bytes : List ℕ} (held_is : bytes ≡ encode (journal_in j).held) (out out' : List ℕ) (room : length out ≡ max_value_bytes) where
       few : ltb (length (journal_in j).entries) max_conversions ≡ true
       unfolding max_conversions
       few = lt-ltb (length (journal_in j).entries) max_conversions (omega (arith, count-place (standing pl j s)))
@@ -86,27 +86,29 @@ module _ (P : Program) (fuel fn : ℕ) (anc j : List ℕ) where
       whole : called false P fn anc bytes fuel max_value_bytes ≡ called false P fn anc bytes fuel (length out)
       whole = ap (called false P fn anc bytes fuel) (sym room)
 
-      run_as : {w : RunAnswer} → a ≡ w → RunMeans w (called false P fn anc bytes fuel (length out)) out out'
-      run_as e = subst (λ a. RunMeans a (called false P fn anc bytes fuel (length out)) out out') e R
-
       -- the run is refused
-      pub convert_refused : {r : Refusal} → a ≡ runs.Refused r → TurnMeans (runs.Refused r) (convert_of P fuel fn anc j) j j
+      pub convert_refused : {why : Refusal} → RunMeans (Err why) (called false P fn anc bytes fuel (length out)) out out' → {r : Result Done Refusal} → r ≡ Err why
+          → TurnMeans r (convert_of P fuel fn anc j) j j
       unfolding convert_of run_of
-      convert_refused {r} e = turn-refused r j
+      convert_refused {why} R e = rw e (turn-refused why j
           (via _ (present_some 18 there) (via _ (require_yes 20 0 few)
-          (not_carried false P fn fuel anc bytes (ancillae anc) (some (journal_in j).held) refl held-read _ (whole ∙ refused-into (run_as e)))))
-          (run_as e).later
+          (not_carried false P fn fuel anc bytes (ancillae anc) (some (journal_in j).held) refl held-read _ (whole ∙ refused-into R))))
+          R.later)
 
-      module _ {d : Done} (e : a ≡ runs.Ran d) where
+      module _ {d : Done} (R : RunMeans (Ok d) (called false P fn anc bytes fuel (length out)) out out') where
         into : Into (called false P fn anc bytes fuel (length out)) out' d
-        into = ran-into (run_as e)
+        into = ran-into R
 
         ran : Carried false P fn fuel anc bytes (ancillae anc) (some (journal_in j).held) refl held-read into.ran
         ran = carried false P fn fuel anc bytes (ancillae anc) (some (journal_in j).held) refl held-read (whole ∙ into.is)
 
         -- the run's value stands at the output's front, and the ancillae were read
-        pub convert_keeps : ((is_value (take d.len out') ≡ true) × (are_values anc ≡ true)) × (d.len ≤ length out')
-        convert_keeps = ((front_is_value into.ran.value into.front ran.fitting, ap is_some ran.ancillae_read), into.inside)
+        pub convert_keeps : {n : ℕ} → n ≡ d.len → ((is_value (take n out') ≡ true) × (are_values anc ≡ true)) × (n ≡ length (take n out')) × (n ≤ length out')
+        convert_keeps {n} e = (
+          (ap (λ n. is_value (take n out')) e ∙ front_is_value into.ran.value into.front ran.fitting, ap is_some ran.ancillae_read),
+          sym (length-take-le n out' (omega (arith, e, into.inside))),
+          omega (arith, e, into.inside),
+        )
 
         converted_is : converted_to j (take d.len out') d.steps fn anc
             ≡ turned (length j) into.ran (converted (journal_in j) into.ran.value (conversion fn into.ran.steps ran.given.ancillae))
@@ -117,7 +119,9 @@ module _ (P : Program) (fuel fn : ℕ) (anc j : List ℕ) where
             into.steps (values_in_is anc ran.ancillae_read)
 
         -- what is answered after the run is what convert answers
-        pub convert_ran : {r : RunAnswer} {j' : List ℕ} → TurnMeans r (converted_to j (take d.len out') d.steps fn anc) j j' → TurnMeans r (convert_of P fuel fn anc j) j j'
+        pub convert_ran : {n : ℕ} → n ≡ d.len → {r : Result Done Refusal} {j' : List ℕ} → TurnMeans r (converted_to j (take n out') d.steps fn anc) j j'
+            → TurnMeans r (convert_of P fuel fn anc j) j j'
         unfolding convert_of run_of
-        convert_ran {r} {j'} M = subst (λ x. TurnMeans r x j j')
-            (converted_is ∙ sym (via _ (present_some 18 there) (via _ (require_yes 20 0 few) (via _ ran.admits (via _ ran.runs refl))))) M
+        convert_ran {n} e {r} {j'} M = subst (λ x. TurnMeans r x j j')
+            (ap (λ n. converted_to j (take n out') d.steps fn anc) e ∙ converted_is
+            ∙ sym (via _ (present_some 18 there) (via _ (require_yes 20 0 few) (via _ ran.admits (via _ ran.runs refl))))) M

@@ -9,3 +9,5 @@ pub mod Converts
 pub mod Rollbacks
 -- the rows of the program before those of the journal
 pub mod Loads
+-- the test of a journal's form
+pub mod Forms

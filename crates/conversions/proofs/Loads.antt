@@ -2,26 +2,22 @@
 use Prim.Native.Nat.{ℕ, ◌≤◌}
 use mathlib.Core.Path.{◌≡◌, refl, sym, ap, subst, ◌∙◌}
 use mathlib.Core.List.{List}
+use Rattle.std.specs.Prelude.{Result, Ok, Err}
 use package.Rattle.rules.specs.Term.{Program}
 use package.Rattle.calls.specs.Answer.{Answer, accepted, refused, ◌>>=◌}
 use package.Rattle.calls.specs.Load.{load}
 use package.Rattle.calls.specs.Conversions.{Turned}
 use package.Rattle.calls.specs.Book.{after_open}
 use package.Rattle.calls.proofs.Answer.{via, refused≢accepted}
-use package.Rattle.program.specs.declared.fields.Counts.{Counts}
+use package.Rattle.answers.specs.declared.Done.{Done}
 use package.Rattle.answers.specs.declared.Refusal.{Refusal}
-use package.Rattle.answers.specs.declared.CheckAnswer.{CheckAnswer}
-use package.Rattle.answers.specs.declared.CheckAnswer.TheVariants as checks
-use package.Rattle.answers.specs.declared.RunAnswer.{RunAnswer}
-use package.Rattle.answers.specs.declared.RunAnswer.TheVariants as runs
-use package.Rattle.answers.specs.Answers.{number_of, place_of, check_answer, Later, refuses}
+use package.Rattle.answers.specs.Answers.{number_of, place_of, refuses}
 use package.Rattle.answers.proofs.Answers.{later_number}
-use package.Rattle.loading.specs.declared.Loaded.{Loaded}
-use package.Rattle.loading.specs.declared.Loaded.TheVariants.{Ready, Refused}
-use package.Rattle.loading.specs.Loading.{LoadMeans}
-use package.Rattle.loading.proofs.Loading.{loaded_is, refused_is, refused-number}
+use package.Rattle.loading.specs.declared.loaded.Loaded.{Loaded}
+use package.Rattle.loading.specs.Loads.{program_loaded, Loads}
+use package.Rattle.loading.proofs.Loading.{refused-number}
 use package.Rattle.requests.specs.Calls.{CheckMeans}
-use package.Rattle.conversions.specs.Turns.{OpenMeans, TurnMeans, in_fronts}
+use package.Rattle.conversions.specs.Turns.{OpenMeans, TurnMeans}
 use package.Rattle.conversions.proofs.Values.{turn-refused as left_alone}
 
 ----------------------------------------------------------------
@@ -42,28 +38,26 @@ kind-refused (refused m q) x e = refused-same e
     refused-same : {A B : Type 0} {n m p q : ℕ} → ◌≡◌ {A = Answer A} (refused n p) (refused m q) → ◌≡◌ {A = Answer B} (refused n p) (refused m q)
     refused-same e = cc
 
-refused_open : {x : Answer (List ℕ)} (r : Refusal) (j : List ℕ) → refused (number_of r) (place_of r) ≡ x → 2 ≤ number_of r → OpenMeans (checks.Refused r) x j j
+refused_open : {x : Answer (List ℕ)} (r : Refusal) (j : List ℕ) → refused (number_of r) (place_of r) ≡ x → 2 ≤ number_of r → OpenMeans (Err r) x j j
 unfolding after_open
 refused_open r j e l = rw (← e) (record { answer = refl; later = refuses {n = number_of r} l; journal = refl })
 
-module _ {xs : List ℕ} {v : CheckAnswer} (C : CheckMeans v xs) (x : Answer (List ℕ)) {j : List ℕ} where
-  pub open_ready : v ≡ checks.Accepted → {r : CheckAnswer} {j' : List ℕ} → OpenMeans r x j j' → OpenMeans r (load xs >>= λ P. x) j j'
-  open_ready e {r} {j'} O = subst (λ x. OpenMeans r x j j') (kind-accepted (load xs) x (ap check_answer (sym e) ∙ C.answer)) O
+module _ {xs : List ℕ} (x : Answer (List ℕ)) {j : List ℕ} where
+  pub open_ready : CheckMeans (Ok tt) xs → {r : Result (Unit {0}) Refusal} {j' : List ℕ} → OpenMeans r x j j' → OpenMeans r (load xs >>= λ P. x) j j'
+  open_ready C {r} {j'} O = subst (λ x. OpenMeans r x j j') (kind-accepted (load xs) x C.answer) O
 
-  pub open_refused : {r : Refusal} → v ≡ checks.Refused r → OpenMeans (checks.Refused r) (load xs >>= λ P. x) j j
-  open_refused {r} e = refused_open r j (kind-refused (load xs) x (ap check_answer (sym e) ∙ C.answer))
-      (later_number (subst (λ v. Later (check_answer v)) e C.later))
+  pub open_refused : {why : Refusal} → CheckMeans (Err why) xs → {r : Result (Unit {0}) Refusal} → r ≡ Err why → OpenMeans r (load xs >>= λ P. x) j j
+  open_refused {why} C e = rw e (refused_open why j (kind-refused (load xs) x C.answer) (later_number C.later))
 
 ----------------------------------------------------------------
 -- Convert and rollback
 
-module _ {xs types terms functions : List ℕ} {table : List (List ℕ)} {v : Loaded} (M : LoadMeans v xs types terms functions table)
-    (turn : Program → Answer Turned) {j : List ℕ} where
-  pub turn-ready : {c : Counts} → v ≡ Ready c → {r : RunAnswer} {j' : List ℕ} → TurnMeans r (turn (in_fronts c xs types terms functions)) j j'
+module _ {xs : List ℕ} (turn : Program → Answer Turned) {j : List ℕ} where
+  pub turn-ready : {l : Loaded} → Loads (Ok l) xs → {P : Program} → P ≡ program_loaded l → {r : Result Done Refusal} {j' : List ℕ} → TurnMeans r (turn P) j j'
       → TurnMeans r (load xs >>= turn) j j'
   unfolding ◌>>=◌
-  turn-ready e {r} {j'} T = subst (λ x. TurnMeans r x j j') (sym (via _ (loaded_is M e) refl)) T
+  turn-ready L e {r} {j'} T = subst (λ x. TurnMeans r x j j') (sym (via _ (L.answer ∙ ap accepted (sym e)) refl)) T
 
-  pub turn-refused : {r : Refusal} → v ≡ Refused r → TurnMeans (runs.Refused r) (load xs >>= turn) j j
+  pub turn-refused : {why : Refusal} → Loads (Err why) xs → {r : Result Done Refusal} → r ≡ Err why → TurnMeans r (load xs >>= turn) j j
   unfolding ◌>>=◌
-  turn-refused {r} e = left_alone r j (ap (λ a. a >>= turn) (refused_is M e)) (refuses {n = number_of r} (refused-number M e))
+  turn-refused {why} L e = rw e (left_alone why j (ap (λ a. a >>= turn) L.answer) (refuses {n = number_of why} (refused-number L)))

@@ -4,6 +4,7 @@ use native.Mathlib.Omega.{arith}
 use mathlib.Core.Path.{◌≡◌, refl, sym, subst, ◌∙◌}
 use mathlib.Core.Bool.{Bool, true, false, false≢true}
 use mathlib.Core.Option.{Option, none, some}
+use Rattle.std.specs.Prelude.{Result, Ok, Err}
 use mathlib.Core.List.{List}
 use lib.ListN.{length}
 use lib.Dec.{leb}
@@ -20,7 +21,6 @@ use package.Rattle.journal.specs.Turns.{opens}
 use package.Rattle.journal.proofs.Ends.{no_value}
 use package.Rattle.answers.specs.declared.Refusal.{Refusal}
 use package.Rattle.answers.specs.declared.Refusal.TheVariants.{Values, Full}
-use package.Rattle.answers.specs.declared.CheckAnswer.TheVariants as checks
 use package.Rattle.answers.specs.Answers.{number_of, place_of, accepts, refuses}
 use package.Rattle.conversions.specs.Turns.{open_of, OpenMeans}
 
@@ -51,12 +51,12 @@ module _ (n : ℕ) (J : Journal) where
 -- Open
 
 -- a refusal leaves the journal
-open_refused : {x : Answer (List ℕ)} (r : Refusal) (j : List ℕ) → x ≡ refused (number_of r) (place_of r) → 2 ≤ number_of r → OpenMeans (checks.Refused r) x j j
+open_refused : {x : Answer (List ℕ)} (r : Refusal) (j : List ℕ) → x ≡ refused (number_of r) (place_of r) → 2 ≤ number_of r → OpenMeans (Err r) x j j
 unfolding after_open
-open_refused r j e l = subst (λ x. OpenMeans (checks.Refused r) x j j) (sym e) (record { answer = refl; later = refuses l; journal = refl })
+open_refused r j e l = subst (λ x. OpenMeans (Err r) x j j) (sym e) (record { answer = refl; later = refuses l; journal = refl })
 
 module _ (h j : List ℕ) {ok : Bool} (is : ok ≡ is_value h) where
-  pub no_record : ok ≡ false → OpenMeans (checks.Refused Values) (open_of h (length j)) j j
+  pub no_record : ok ≡ false → OpenMeans (Err Values) (open_of h (length j)) j j
   unfolding open_of
   no_record e = open_refused Values j (stops _ (present_none 10 (no_value (value h) (sym is ∙ e)))) (omega arith)
 
@@ -69,10 +69,10 @@ module _ (h j : List ℕ) {ok : Bool} (is : ok ≡ is_value h) where
       pub open_fits : fit ≡ true → length (fields (opens (value_in h))) ≤ length j
       open_fits t = leb-sound _ _ (sym fits ∙ t)
 
-      pub open_full : fit ≡ false → OpenMeans (checks.Refused Full) (open_of h (length j)) j j
+      pub open_full : fit ≡ false → OpenMeans (Err Full) (open_of h (length j)) j j
       open_full t = open_refused Full j (opened ∙ kept_not (length j) (opens (value_in h)) (sym fits ∙ t)) (omega arith)
 
-      pub open_done : fit ≡ true → {j' : List ℕ} → j' ≡ write_out (length j) (opens (value_in h)) → OpenMeans checks.Accepted (open_of h (length j)) j j'
+      pub open_done : fit ≡ true → {j' : List ℕ} → j' ≡ write_out (length j) (opens (value_in h)) → OpenMeans (Ok tt) (open_of h (length j)) j j'
       unfolding after_open
-      open_done t {j'} k = subst (λ x. OpenMeans checks.Accepted x j j') (sym (opened ∙ kept_there (length j) (opens (value_in h)) (sym fits ∙ t)))
+      open_done t {j'} k = subst (λ x. OpenMeans (Ok tt) x j j') (sym (opened ∙ kept_there (length j) (opens (value_in h)) (sym fits ∙ t)))
           (record { answer = refl; later = accepts; journal = k })

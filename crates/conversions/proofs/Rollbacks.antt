@@ -4,6 +4,8 @@ use native.Mathlib.Omega.{arith}
 use mathlib.Core.Path.{◌≡◌, refl, sym, ap, ap₂, subst, ◌∙◌}
 use mathlib.Core.Bool.{Bool, true, false}
 use mathlib.Core.Option.{some}
+use Rattle.std.specs.Prelude.{Option, Result, Ok, Err}
+use Rattle.std.specs.Option.{ok_or}
 use mathlib.Core.List.{List}
 use lib.ListN.{length, take}
 use lib.Dec.{eqb, leb}
@@ -26,21 +28,18 @@ use package.Rattle.valuebytes.specs.Ends.{is_value, value_in}
 use package.Rattle.admission.specs.Admitting.{side_of}
 use package.Rattle.runs.specs.Ended.{finished}
 use package.Rattle.journal.specs.declared.places.Places.{Places}
-use package.Rattle.journal.specs.declared.places.Survey.{Survey}
-use package.Rattle.journal.specs.declared.places.Survey.TheVariants as survey
 use package.Rattle.journal.specs.Places.{newest_of, journal_in, Surveyed, Stands}
 use package.Rattle.journal.specs.Turns.{rolled_back}
-use package.Rattle.journal.proofs.Stands.{surveyed_as, standing, count-place, unformed, newest_split, newest_none, newest_some}
+use package.Rattle.journal.proofs.Stands.{standing, count-place, newest_split, newest_none, newest_some}
 use package.Rattle.journal.proofs.Turns.{is_value_lem}
 use package.Rattle.answers.specs.declared.Done.{Done}
 use package.Rattle.answers.specs.declared.Refusal.{Refusal}
 use package.Rattle.answers.specs.declared.Refusal.TheVariants.{Journal as Unread, Standing, Full}
-use package.Rattle.answers.specs.declared.RunAnswer.{RunAnswer}
-use package.Rattle.answers.specs.declared.RunAnswer.TheVariants as runs
 use package.Rattle.answers.specs.Answers.{refuses}
 use package.Rattle.requests.specs.Runs.{run_of, called, RunMeans}
 use package.Rattle.conversions.specs.Turns.{rollback_of, TurnMeans}
 use package.Rattle.conversions.specs.Rollbacks.{ran_to, taken_back, struck}
+use package.Rattle.conversions.proofs.Forms.{not_read}
 use package.Rattle.conversions.proofs.Values.{run_fits, finished_whole, Into, ran-into, refused-into, front_is_value, front-value_in, turn-refused, turn-full, turn-written}
 
 ----------------------------------------------------------------
@@ -98,7 +97,7 @@ module _ (pl : Places) (j : List ℕ) (s : Stands pl j) (stood : 0 < pl.count) w
         ap (called true P g anc bytes fuel) l ∙ back_whole P g fuel anc bytes _ _ (ap ancillae q ∙ newest-read) (ap value r ∙ held-read)
         ∙ ap (λ g. admit P g (some (newest_of (journal_in j).entries).newest.ancillae) (some (journal_in j).held) (λ h. h.result) >>= returns P fuel) p
 
-    pub taken_back_lem : {g : ℕ} {anc bytes out out' : List ℕ} {r : RunAnswer} → g ≡ (newest_of (journal_in j).entries).newest.function
+    pub taken_back_lem : {g : ℕ} {anc bytes out out' : List ℕ} {r : Result Done Refusal} → g ≡ (newest_of (journal_in j).entries).newest.function
         → anc ≡ encode_all (newest_of (journal_in j).entries).newest.ancillae → bytes ≡ encode (journal_in j).held → length out ≡ max_value_bytes
         → RunMeans r (called true P g anc bytes fuel (length out)) out out' → RunMeans r (taken_back P fuel (journal_in j)) out out'
     taken_back_lem {out = out} {out' = out'} {r = r} p q b l R = subst (λ x. RunMeans r x out out') (called-back out p q b l) R
@@ -113,18 +112,16 @@ module _ (pl : Places) (j : List ℕ) (s : Stands pl j) (stood : 0 < pl.count) w
         (sym (goes_further (admit P (newest_of (journal_in j).entries).newest.function (some (newest_of (journal_in j).entries).newest.ancillae) (some (journal_in j).held) λ h. h.result)
         (returns P fuel) (struck (length j) (journal_in j)))))
 
-    module _ {a : RunAnswer} {out out' : List ℕ} (R : RunMeans a (taken_back P fuel (journal_in j)) out out') where
+    module _ {out out' : List ℕ} where
       -- a run that is refused
-      pub not_taken : {r : Refusal} → a ≡ runs.Refused r → TurnMeans (runs.Refused r) (rollback_of P fuel j) j j
-      not_taken {r} q = turn-refused r j (rollback_is ∙ stops _ (refused-into refusal)) refusal.later
-        where
-          refusal : RunMeans (runs.Refused r) (taken_back P fuel (journal_in j)) out out'
-          refusal = subst (λ a. RunMeans a (taken_back P fuel (journal_in j)) out out') q R
+      pub not_taken : {why : Refusal} → RunMeans (Err why) (taken_back P fuel (journal_in j)) out out' → {r : Result Done Refusal} → r ≡ Err why
+          → TurnMeans r (rollback_of P fuel j) j j
+      not_taken {why} R e = rw e (turn-refused why j (rollback_is ∙ stops _ (refused-into R)) R.later)
 
       -- one that is not: its value is the front of the output
-      module _ {d : Done} (q : a ≡ runs.Ran d) (n : ℕ) (e : n ≡ d.len) where
+      module _ {d : Done} (R : RunMeans (Ok d) (taken_back P fuel (journal_in j)) out out') {n : ℕ} (e : n ≡ d.len) where
         into : Into (taken_back P fuel (journal_in j)) out' d
-        into = ran-into (subst (λ a. RunMeans a (taken_back P fuel (journal_in j)) out out') q R)
+        into = ran-into R
 
         front : take n out' ≡ encode into.ran.value
         front = ap (λ n. take n out') e ∙ into.front
@@ -141,7 +138,7 @@ module _ (pl : Places) (j : List ℕ) (s : Stands pl j) (stood : 0 < pl.count) w
         pub front_long : d.len ≡ length (take n out')
         front_long = into.len ∙ sym (ap length front ∙ length-encode into.ran.value)
 
-        pub taken : {r : RunAnswer} {j' : List ℕ} → TurnMeans r (struck (length j) (journal_in j) (ran_to (value_in (take n out')) d.steps)) j j'
+        pub taken : {r : Result Done Refusal} {j' : List ℕ} → TurnMeans r (struck (length j) (journal_in j) (ran_to (value_in (take n out')) d.steps)) j j'
             → TurnMeans r (rollback_of P fuel j) j j'
         taken {r} {j'} T = subst (λ x. TurnMeans r x j j')
             (sym (rollback_is ∙ via _ into.is
@@ -154,7 +151,7 @@ module _ (j h : List ℕ) (d : Done) {m k : ℕ} (t : is_value h ≡ true) (long
   abbrev after : Answer Turned
   after = struck (length j) (journal_in j) (ran_to (value_in h) d.steps)
 
-  pub other-steps : ¬ (m ≡ k) → TurnMeans (runs.Refused Unread) after j j
+  pub other-steps : ¬ (m ≡ k) → TurnMeans (Err Unread) after j j
   unfolding struck
   other-steps o = turn-refused Unread j (stops _ (require-no 18 0 (eqb-differs _ _ λ z. o (same ∙ z ∙ sym noted)))) (refuses {n = 18} (omega arith))
 
@@ -167,30 +164,27 @@ module _ (j h : List ℕ) (d : Done) {m k : ℕ} (t : is_value h ≡ true) (long
       pub room : fit ≡ true → length (fields (rolled_back (journal_in j) (value_in h))) ≤ length j
       room y = leb-sound _ _ (sym f ∙ y)
 
-      pub no_room : fit ≡ false → TurnMeans (runs.Refused Full) after j j
-      no_room y = subst (λ x. TurnMeans (runs.Refused Full) x j j) (sym counted) (turn-full (value_in h) d.steps (rolled_back (journal_in j) (value_in h)) j (sym f ∙ y))
+      pub no_room : fit ≡ false → TurnMeans (Err Full) after j j
+      no_room y = subst (λ x. TurnMeans (Err Full) x j j) (sym counted) (turn-full (value_in h) d.steps (rolled_back (journal_in j) (value_in h)) j (sym f ∙ y))
 
-      pub rolled : fit ≡ true → {j' : List ℕ} → j' ≡ write_out (length j) (rolled_back (journal_in j) (value_in h)) → TurnMeans (runs.Ran d) after j j'
-      rolled y {j'} w = subst (λ x. TurnMeans (runs.Ran d) x j j') (sym counted)
+      pub rolled : fit ≡ true → {j' : List ℕ} → j' ≡ write_out (length j) (rolled_back (journal_in j) (value_in h)) → TurnMeans (Ok d) after j j'
+      rolled y {j'} w = subst (λ x. TurnMeans (Ok d) x j j') (sym counted)
           (turn-written (value_in h) d.steps (rolled_back (journal_in j) (value_in h)) j d (sym f ∙ y) (long ∙ (is_value_lem h t).long) refl w)
 
 ----------------------------------------------------------------
 -- Before the run
 
-module _ (j : List ℕ) {v : Survey} (S : Surveyed v j) where
-  pub stands : {pl : Places} → v ≡ survey.Form pl → Stands pl j
-  stands e = surveyed_as S e
+module _ (P : Program) (fuel : ℕ) (j : List ℕ) where
+  pub unread : {o : Option Places} → Surveyed o j → {e : Refusal} → ok_or o Unread ≡ Err e → {r : Result Done Refusal} → r ≡ Err e
+      → TurnMeans r (rollback_of P fuel j) j j
+  unfolding rollback_of
+  unread {o} S is w = let u = not_read Unread o S is in rw w (rw u.0 (turn-refused Unread j (stops _ (present_none 18 u.1)) (refuses {n = 18} (omega arith))))
 
-  module _ (P : Program) (fuel : ℕ) where
-    pub unread : v ≡ survey.Malformed → TurnMeans (runs.Refused Unread) (rollback_of P fuel j) j j
-    unfolding rollback_of
-    unread e = turn-refused Unread j (stops _ (present_none 18 (unformed j (surveyed_as S e)))) (refuses {n = 18} (omega arith))
-
-    pub none_stands : {pl : Places} → v ≡ survey.Form pl → pl.count ≡ 0 → TurnMeans (runs.Refused Standing) (rollback_of P fuel j) j j
-    unfolding rollback_of
-    none_stands {pl} e z = turn-refused Standing j
-        (via _ (present_some 18 (standing pl j (stands e)).read) (stops _ (present_none 19 (newest_none (journal_in j).entries (sym (count-place (standing pl j (stands e))) ∙ z)))))
-        (refuses {n = 19} (omega arith))
+  pub none_stands : {pl : Places} → Stands pl j → pl.count ≡ 0 → TurnMeans (Err Standing) (rollback_of P fuel j) j j
+  unfolding rollback_of
+  none_stands {pl} s z = turn-refused Standing j
+      (via _ (present_some 18 (standing pl j s).read) (stops _ (present_none 19 (newest_none (journal_in j).entries (sym (count-place (standing pl j s)) ∙ z)))))
+      (refuses {n = 19} (omega arith))
 
 pub some_count : {n : ℕ} → ¬ (n ≡ 0) → 0 < n
 some_count h = omega arith

@@ -5,6 +5,7 @@ use native.Mathlib.Omega.{arith}
 use mathlib.Core.Path.{◌≡◌, refl, sym, ap, ap₂, subst, ◌∙◌}
 use mathlib.Core.Bool.{Bool, true, false}
 use mathlib.Core.Option.{Option, some}
+use Rattle.std.specs.Prelude.{Result, Ok, Err}
 use mathlib.Core.List.{List, ◌++◌}
 use lib.ListN.{length, take, drop}
 use lib.Dec.{leb}
@@ -34,7 +35,6 @@ use package.Rattle.journal.proofs.Turns.{value_in_is}
 use package.Rattle.answers.specs.declared.Done.{Done}
 use package.Rattle.answers.specs.declared.Refusal.{Refusal}
 use package.Rattle.answers.specs.declared.Refusal.TheVariants.{Full}
-use package.Rattle.answers.specs.declared.RunAnswer.TheVariants as runs
 use package.Rattle.answers.specs.Answers.{number_of, place_of, summary, Later, accepts, refuses as rejects}
 use package.Rattle.requests.specs.Runs.{run_of, called, RunMeans}
 use package.Rattle.conversions.specs.Turns.{TurnMeans}
@@ -118,7 +118,7 @@ pub record Into (x : Answer Ran) (out' : List ℕ) (d : Done) : Type 0 where
   pub front : take d.len out' ≡ encode ran.value
 
 module _ {x : Answer Ran} {out out' : List ℕ} where
-  pub ran-into : {d : Done} → RunMeans (runs.Ran d) x out out' → Into x out' d
+  pub ran-into : {d : Done} → RunMeans (Ok d) x out out' → Into x out' d
   unfolding written ◌>>=◌
   ran-into {d} R = go x refl
     where
@@ -136,7 +136,7 @@ module _ {x : Answer Ran} {out out' : List ℕ} where
           }
       go (refused n p) e = absurd (refused≢accepted (sym (R.answer ∙ ap summary e)))
 
-  pub refused-into : {r : Refusal} → RunMeans (runs.Refused r) x out out' → x ≡ refused (number_of r) (place_of r)
+  pub refused-into : {r : Refusal} → RunMeans (Err r) x out out' → x ≡ refused (number_of r) (place_of r)
   refused-into {r} R = go x refl
     where
       go : (y : Answer Ran) → x ≡ y → x ≡ refused (number_of r) (place_of r)
@@ -159,20 +159,20 @@ module _ (v : Val) {h : List ℕ} (e : h ≡ encode v) (f : fits v ≡ true) whe
 
 -- a refusal leaves the journal as it was
 pub turn-refused : (r : Refusal) (j : List ℕ) {x : Answer Turned} → x ≡ refused (number_of r) (place_of r) → Later {A = ℕ × ℕ} (refused (number_of r) (place_of r))
-    → TurnMeans (runs.Refused r) x j j
+    → TurnMeans (Err r) x j j
 unfolding after_turned
 turn-refused r j e l = rw e (record { answer = refl; later = l; journal = refl })
 
 module _ (v : Val) (s : ℕ) (J : Journal) (j : List ℕ) where
   -- the journal does not fit
-  pub turn-full : leb (length (fields J)) (length j) ≡ false → TurnMeans (runs.Refused Full) (turned (length j) (record { value = v; steps = s }) J) j j
+  pub turn-full : leb (length (fields J)) (length j) ≡ false → TurnMeans (Err Full) (turned (length j) (record { value = v; steps = s }) J) j j
   unfolding turned kept
   turn-full e = turn-refused Full j (stops _ (stops _ (require-no 20 0 e))) (rejects {n = 20} (omega arith))
 
   -- it fits, and is written
   pub turn-written : (d : Done) {j' : List ℕ} → leb (length (fields J)) (length j) ≡ true → d.len ≡ size v → d.steps ≡ s → j' ≡ write_out (length j) J
-      → TurnMeans (runs.Ran d) (turned (length j) (record { value = v; steps = s }) J) j j'
+      → TurnMeans (Ok d) (turned (length j) (record { value = v; steps = s }) J) j j'
   unfolding turned kept after_turned
-  turn-written d {j'} e l n w = subst (λ x. TurnMeans (runs.Ran d) x j j')
+  turn-written d {j'} e l n w = subst (λ x. TurnMeans (Ok d) x j j')
       (sym (via _ (via _ (require_yes 20 0 e) refl) refl))
       (record { answer = ap₂ (λ l n. accepted (l, n)) l n; later = accepts; journal = w })

@@ -1,6 +1,6 @@
 -- Open, convert and rollback from the rows of the program on (sections 4 and 5), against calls/specs/Conversions: the same answers, of a
 -- program that has loaded in a workspace that is long enough.
-use Rattle.std.specs.Prelude.{ℕ, ◌≡◌, List, [], ◌∷◌, ◌++◌, length, take, eqb, ltb}
+use Rattle.std.specs.Prelude.{ℕ, ◌≡◌, List, [], ◌∷◌, ◌++◌, length, eqb, ltb, Result}
 use Rattle.std.proofs.Math.Option.{some}
 use package.Rattle.rules.specs.Limits.{max_conversions}
 use package.Rattle.rules.specs.Term.{Program}
@@ -11,10 +11,8 @@ use package.Rattle.calls.specs.Runs.{admit, goes, returns}
 use package.Rattle.calls.specs.Journal.{read_journal}
 use package.Rattle.calls.specs.Conversions.{Turned, kept, turned, newest}
 use package.Rattle.calls.specs.Book.{after_open, after_turned}
-use package.Rattle.program.specs.declared.fields.Counts.{Counts}
-use package.Rattle.program.specs.Programs.{program_in}
-use package.Rattle.answers.specs.declared.CheckAnswer.{CheckAnswer}
-use package.Rattle.answers.specs.declared.RunAnswer.{RunAnswer}
+use package.Rattle.answers.specs.declared.Done.{Done}
+use package.Rattle.answers.specs.declared.Refusal.{Refusal}
 use package.Rattle.answers.specs.Answers.{check_answer, run_answer, open_answer, held_answer, Later}
 
 ----------------------------------------------------------------
@@ -52,20 +50,16 @@ rollback_of P fuel journal = do
 -- What the code answers
 
 -- An open whose meaning is `x`, in a workspace that is long enough, and the journal before and after it.
-pub record OpenMeans (r : CheckAnswer) (x : Answer (List ℕ)) (j j' : List ℕ) : Type 0 where
+pub record OpenMeans (r : Result (Unit {0}) Refusal) (x : Answer (List ℕ)) (j j' : List ℕ) : Type 0 where
   pub answer : check_answer r ≡ open_answer x
   pub later : Later (check_answer r)
   pub journal : j' ≡ (after_open j x).journal
 
 -- the same of a convert or a rollback
-pub record TurnMeans (r : RunAnswer) (x : Answer Turned) (j j' : List ℕ) : Type 0 where
+pub record TurnMeans (r : Result Done Refusal) (x : Answer Turned) (j j' : List ℕ) : Type 0 where
   pub answer : run_answer r ≡ held_answer x
   pub later : Later (run_answer r)
   pub journal : j' ≡ (after_turned j x).journal
-
--- the program whose entries stand at the offsets at the fronts of buffers
-abbrev pub in_fronts : Counts → List ℕ → List ℕ → List ℕ → List ℕ → Program
-in_fronts c xs types terms functions = program_in xs (take c.types types) (take c.terms terms) (take c.functions functions)
 
 -- the same of the program that the bytes are, if they are one
 abbrev pub open_in : List ℕ → List ℕ → ℕ → Answer (List ℕ)

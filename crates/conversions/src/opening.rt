@@ -4,19 +4,19 @@ ghost use Rattle.std.specs.Prelude.{length};
 ghost use Rattle.conversions.specs.Turns.{open_of, OpenMeans};
 
 use answers::{CheckAnswer, Refusal};
+use journal::writing;
+use valuebytes::scan;
 
 // Writes the record to the journal, with no conversion behind it.
 pub fn open(held: &[u8], journal: &mut [u8]) -> CheckAnswer
     ensures { OpenMeans result (open_of held.now (length journal.old)) journal.old journal.new }
 {
-    let ok = valuebytes::scan::one_value(held);
-    if ok {
-        let fit = journal::writing::fits_open(journal, held);
-        if fit {
-            journal::writing::write_open(journal, held);
-            return CheckAnswer::Accepted;
-        }
-        return CheckAnswer::Refused(Refusal::Full);
+    if !scan::one_value(held) {
+        return Err(Refusal::Values);
     }
-    CheckAnswer::Refused(Refusal::Values)
+    if !writing::fits_open(journal, held) {
+        return Err(Refusal::Full);
+    }
+    writing::write_open(journal, held);
+    Ok(())
 }

@@ -1,70 +1,91 @@
-// Arguments: numbers and byte strings. Where one is not what it should be, standard error says so.
-ghost use Rattle.std.specs.Prelude.{◌*◌, ◌≤◌, ◌<◌, length};
-ghost use Rattle.calltext.specs.Numbered.{value_of};
-ghost use Rattle.calltext.specs.Decoded.{size_of};
+// Arguments: their places and names, numbers and byte strings.
+ghost use Rattle.std.specs.Prelude.{◌*◌, ◌≤◌, ◌<◌, length, IfOk};
 
-use crate::printing;
-use calltext::decimal::Number;
-use calltext::hexadecimal::Decoded;
+use crate::failures::ArgumentError;
 use calltext::{decimal, hexadecimal};
 use std::rt::Env;
 
-// Argument i, at the start of `word`: its length, 0 where there is none. (The system lends none that is longer than `word`.)
-pub(crate) fn word_of(rt: &impl Env, i: usize, word: &mut [u8]) -> usize
+// Where an argument stands behind the program's name, and what the usage calls it.
+#[derive(Clone, Copy)]
+pub(crate) struct Argument {
+    pub place: usize,
+    pub name: &'static str,
+}
+
+// The first argument says what to do.
+pub(crate) const COMMAND: usize = 1;
+
+pub(crate) const FILE: Argument = Argument {
+    place: 2,
+    name: "FILE",
+};
+
+pub(crate) const FUNCTION: Argument = Argument {
+    place: 3,
+    name: "FUNCTION",
+};
+
+pub(crate) const FUEL: Argument = Argument {
+    place: 4,
+    name: "FUEL",
+};
+
+pub(crate) const ANCILLAE: Argument = Argument {
+    place: 5,
+    name: "ANCILLAE",
+};
+
+pub(crate) const VALUE: Argument = Argument {
+    place: 6,
+    name: "VALUE",
+};
+
+pub(crate) const SCRIPT: Argument = Argument {
+    place: 3,
+    name: "SCRIPT",
+};
+
+pub(crate) const JOURNAL: Argument = Argument {
+    place: 2,
+    name: "JOURNAL",
+};
+
+// The argument at a place, at the start of `word`: its length, 0 where there is none. (The system lends none that is longer than `word`.)
+pub(crate) fn word_of(rt: &impl Env, place: usize, word: &mut [u8]) -> usize
     ensures { result ≤ length word.new }
 {
-    match rt.arg(i, word) {
+    match rt.arg(place, word) {
         Ok(n) => n,
         Err(_) => 0,
     }
 }
 
-// Argument i as a number of two bytes, at most `most`.
+// An argument as a number of two bytes.
 pub(crate) fn short(
     rt: &impl Env,
-    err: &impl Print,
-    i: usize,
-    most: u64,
-    name: &[u8],
+    argument: Argument,
     word: &mut [u8],
-) -> Number
-    requires { most < 65536 }
-    ensures { value_of result ≤ most }
-{
-    let n = word_of(rt, i, word);
-    let number = decimal::read_number(&word[..n], most);
-    match number {
-        Number::Is(k) => Number::Is(k),
-        Number::Not => {
-            printing::complain(err, name, b" is not a decimal number from 0 to 65535\n");
-            Number::Not
-        }
+) -> Result<u16, ArgumentError> {
+    let n = word_of(rt, argument.place, word);
+    match decimal::read_number(&word[..n], u64::from(u16::MAX)) {
+        Some(number) => Ok(number as u16),
+        None => Err(ArgumentError::Number(argument.name)),
     }
 }
 
-// Argument i as bytes, at the start of `into`.
+// An argument as bytes, at the start of `into`: how many.
 pub(crate) fn byte_string(
     rt: &impl Env,
-    err: &impl Print,
-    i: usize,
-    name: &[u8],
+    argument: Argument,
     word: &mut [u8],
     into: &mut [u8],
-) -> Decoded
+) -> Result<usize, ArgumentError>
     requires { length word.old ≤ 2 * length into.old }
-    ensures { size_of result ≤ length into.new }
+    ensures { IfOk result (λ n. n ≤ length into.new) }
 {
-    let n = word_of(rt, i, word);
-    let decoded = hexadecimal::decode(&word[..n], into);
-    match decoded {
-        Decoded::Bytes(k) => Decoded::Bytes(k),
-        Decoded::Not => {
-            printing::complain(
-                err,
-                name,
-                b" is not hexadecimal: two digits a byte, or - for none\n",
-            );
-            Decoded::Not
-        }
+    let n = word_of(rt, argument.place, word);
+    match hexadecimal::decode(&word[..n], into) {
+        Some(len) => Ok(len),
+        None => Err(ArgumentError::Bytes(argument.name)),
     }
 }

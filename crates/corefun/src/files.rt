@@ -1,67 +1,27 @@
 // Files, read whole.
-ghost use Rattle.std.specs.Prelude.{◌≤◌, length};
-ghost use Rattle.corefun.specs.Bounds.{held_in};
+ghost use Rattle.std.specs.Prelude.{◌≤◌, length, IfOk};
 
-use crate::{arguments, printing};
+use crate::arguments;
+use crate::arguments::Argument;
+use crate::failures::{ArgumentError, Failure};
 use std::io::Read;
 use std::rt::{Env, Files};
 use std::{fs, io, str};
 
-// How many bytes of a buffer a file filled; or it could not be read.
-#[derive(Drop)]
-pub(crate) enum Held {
-    Bytes(usize),
-    Not,
-}
-
-// Reads once, behind the first `n` bytes: how many there are then, or the same number at the end of the file. Where that fails, standard
-// error says why of the path.
-fn read_behind(
-    rt: &impl Alloc,
-    err: &impl Print,
-    path: &[u8],
-    file: &mut impl Read,
-    into: &mut [u8],
-    n: usize,
-) -> Held
-    requires { n ≤ length into.old }
-    ensures { held_in result ≤ length into.new }
-{
-    match file.read(&mut into[n..]) {
-        Ok(more) => Held::Bytes(n + more),
-        Err(error) => {
-            printing::fail(rt, err, path, error);
-            Held::Not
-        }
-    }
-}
-
-// Reads until the file ends or the buffer is full.
-fn read_whole(
-    rt: &impl Alloc,
-    err: &impl Print,
-    path: &[u8],
-    file: &mut impl Read,
-    into: &mut [u8],
-) -> Held
-    ensures { held_in result ≤ length into.new }
+// Reads until the file ends or the buffer is full: how many bytes.
+fn read_whole(file: &mut impl Read, into: &mut [u8]) -> io::Result<usize>
+    ensures { IfOk result (λ n. n ≤ length into.new) }
 {
     let mut n: usize = 0;
+    // Kept: a `while` over the room that is left, since each read says how much of it was filled.
     while n < into.len() {
-        let next = read_behind(rt, err, path, file, into, n);
-        match next {
-            Held::Bytes(k) => {
-                if k <= n {
-                    return Held::Bytes(n);
-                }
-                n = k;
-            }
-            Held::Not => {
-                return Held::Not;
-            }
+        let more = file.read(&mut into[n..])?;
+        if more == 0 {
+            break;
         }
+        n += more;
     }
-    Held::Bytes(n)
+    Ok(n)
 }
 
 // The file of this name, opened. A name that is no text in UTF-8 names no file that can be opened.
@@ -73,53 +33,42 @@ fn open_named<R: Files>(rt: &R, path: &[u8]) -> io::Result<R::File> {
 }
 
 // The file of this name, from its start.
-fn load_named(rt: &(impl Files + Alloc), err: &impl Print, path: &[u8], into: &mut [u8]) -> Held
-    ensures { held_in result ≤ length into.new }
+fn load_named(rt: &impl Files, path: &[u8], into: &mut [u8]) -> io::Result<usize>
+    ensures { IfOk result (λ n. n ≤ length into.new) }
 {
-    match open_named(rt, path) {
-        Ok(mut file) => read_whole(rt, err, path, &mut file, into),
-        Err(error) => {
-            printing::fail(rt, err, path, error);
-            Held::Not
-        }
-    }
+    let mut file = open_named(rt, path)?;
+    read_whole(&mut file, into)
 }
 
-// The file that argument i names, as much of it as the buffer holds. A program that is cut so is over the limit as the whole file is, and
+// The file that an argument names, as much of it as the buffer holds. A program that is cut so is over the limit as the whole file is, and
 // the engine refuses either with 3 at 0.
 pub(crate) fn load(
-    rt: &(impl Env + Files + Alloc),
-    err: &impl Print,
-    i: usize,
+    rt: &(impl Env + Files),
+    argument: Argument,
     word: &mut [u8],
     into: &mut [u8],
-) -> Held
-    ensures { held_in result ≤ length into.new }
+) -> Result<usize, Failure>
+    ensures { IfOk result (λ n. n ≤ length into.new) }
 {
-    let n = arguments::word_of(rt, i, word);
-    load_named(rt, err, &word[..n], into)
+    let n = arguments::word_of(rt, argument.place, word);
+    match load_named(rt, &word[..n], into) {
+        Ok(len) => Ok(len),
+        Err(error) => Err(Failure::File(argument, error)),
+    }
 }
 
-// The same of a file that the buffer has to hold, with a byte to spare. `subject` is the argument's name.
+// The same of a file that the buffer has to hold, with a byte to spare.
 pub(crate) fn load_all(
-    rt: &(impl Env + Files + Alloc),
-    err: &impl Print,
-    i: usize,
-    subject: &[u8],
+    rt: &(impl Env + Files),
+    argument: Argument,
     word: &mut [u8],
     into: &mut [u8],
-) -> Held
-    ensures { held_in result ≤ length into.new }
+) -> Result<usize, Failure>
+    ensures { IfOk result (λ n. n ≤ length into.new) }
 {
-    let held = load(rt, err, i, word, into);
-    match held {
-        Held::Bytes(n) => {
-            if n < into.len() {
-                return Held::Bytes(n);
-            }
-            printing::complain(err, subject, b" holds over 131072 bytes\n");
-            Held::Not
-        }
-        Held::Not => Held::Not,
+    let n = load(rt, argument, word, into)?;
+    if n == into.len() {
+        return Err(Failure::Argument(ArgumentError::Long(argument.name)));
     }
+    Ok(n)
 }

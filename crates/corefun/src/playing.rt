@@ -1,71 +1,41 @@
 // replay: a script of journal calls, played on a journal that is not kept. Each call's answer is printed, then how the playing ended.
 ghost use Rattle.std.specs.Prelude.{◌≤◌, length};
 
-use crate::files::Held;
-use crate::{files, printing};
+use crate::buffers::{Buffers, HALF};
+use crate::failures::Failure;
+use crate::{arguments, files, printing};
 use command::plays;
 use replay::replies::ReplayAnswer;
+use replay::told::LINE;
 use std::rt::{Env, Files};
 
 // The longest journal, and the longest script.
-const JOURNAL: usize = 131072;
+const JOURNAL: usize = HALF - 1;
 
-// A line of the answers: printed; or there is none; or it could not be written.
-#[derive(Drop)]
-enum Said {
-    Line,
-    Nothing,
-    Failed,
-}
+// Room for the line of a call, and for the line that says how the playing ended.
+const CALL: usize = 64;
 
-// The line that seven bytes answer a call with.
-fn say(rt: &(impl Print + Alloc), err: &impl Print, line: &[u8]) -> Said
-    requires { 7 ≤ length line.now }
-{
-    let mut out = [0u8; 64];
-    let n = plays::told_line(line, &mut out);
-    if n == 0 {
-        return Said::Nothing;
-    }
-    if printing::print(rt, err, &out, n) {
-        return Said::Line;
-    }
-    Said::Failed
-}
+const END: usize = 512;
 
-// The lines of the calls that were answered: were they all written? Behind the last answer there are zeros.
-fn say_all(rt: &(impl Print + Alloc), err: &impl Print, answers: &[u8]) -> bool {
-    let mut at: usize = 0;
-    while 7 <= answers.len() - at {
-        let said = say(rt, err, &answers[at..]);
-        match said {
-            Said::Line => {
-                at += 7;
-            }
-            Said::Nothing => {
-                return true;
-            }
-            Said::Failed => {
-                return false;
-            }
+// The lines of the calls that were answered. Behind the last answer there are zeros.
+fn say_all(rt: &impl Print, answers: &[u8]) -> Result<(), Failure> {
+    for line in answers.chunks_exact(LINE) {
+        let mut out = [0u8; CALL];
+        let n = plays::told_line(line, &mut out);
+        if n == 0 {
+            break;
         }
+        printing::print(rt, &out[..n])?;
     }
-    true
-}
-
-// How the playing ended.
-fn report_end(rt: &(impl Print + Alloc), err: &impl Print, answer: ReplayAnswer) {
-    let mut out = [0u8; 512];
-    let n = plays::ended_line(answer, &mut out);
-    printing::print(rt, err, &out, n);
+    Ok(())
 }
 
 // Plays a script on the front of the journal's buffer.
 fn play(
     program: &[u8],
     script: &[u8],
-    journal: &mut [u8],
     workspace: &mut [u8],
+    journal: &mut [u8],
     answers: &mut [u8],
 ) -> ReplayAnswer
     requires { 131072 ≤ length journal.old }
@@ -73,67 +43,20 @@ fn play(
     replay::replay(program, script, workspace, &mut journal[..JOURNAL], answers)
 }
 
-// A script, played and reported.
-fn replay_given(
-    rt: &(impl Print + Alloc),
-    err: &impl Print,
-    program: &[u8],
-    script: &[u8],
-    journal: &mut [u8],
-    workspace: &mut [u8],
-    answers: &mut [u8],
-)
-    requires { 131072 ≤ length journal.old }
-{
-    octets::clear(answers);
-    let answer = play(program, script, journal, workspace, answers);
-    if say_all(rt, err, answers) {
-        report_end(rt, err, answer);
-    }
-}
-
-fn replay_loaded(
-    rt: &(impl Env + Files + Print + Alloc),
-    err: &impl Print,
-    program: &[u8],
-    word: &mut [u8],
-    script: &mut [u8],
-    journal: &mut [u8],
-    workspace: &mut [u8],
-    answers: &mut [u8],
-)
-    requires { 131072 ≤ length journal.old }
-{
-    let Held::Bytes(s) = files::load_all(rt, err, 3, b"SCRIPT", word, script) else {
-        return;
-    };
-    replay_given(rt, err, program, &script[..s], journal, workspace, answers);
-}
-
 // corefun replay PROGRAM SCRIPT
-pub(crate) fn replay(
-    rt: &(impl Env + Files + Print + Alloc),
-    err: &impl Print,
-    word: &mut [u8],
-    program: &mut [u8],
-    script: &mut [u8],
-    journal: &mut [u8],
-    workspace: &mut [u8],
-    answers: &mut [u8],
-)
-    requires { 131072 ≤ length journal.old }
-{
-    let Held::Bytes(p) = files::load(rt, err, 2, word, program) else {
-        return;
-    };
-    replay_loaded(
-        rt,
-        err,
-        &program[..p],
-        word,
-        script,
-        journal,
-        workspace,
-        answers,
+pub(crate) fn replay(rt: &(impl Env + Files + Print), b: &mut Buffers) -> Result<(), Failure> {
+    let p = files::load(rt, arguments::FILE, &mut b.word, &mut b.program)?;
+    let s = files::load_all(rt, arguments::SCRIPT, &mut b.word, &mut b.ancillae)?;
+    b.out.fill(0);
+    let answer = play(
+        &b.program[..p],
+        &b.ancillae[..s],
+        &mut b.workspace,
+        &mut b.value,
+        &mut b.out,
     );
+    say_all(rt, &b.out)?;
+    let mut out = [0u8; END];
+    let n = plays::ended_line(answer, &mut out);
+    printing::print(rt, &out[..n])
 }

@@ -2,7 +2,7 @@
 use Prim.Native.Nat.{ℕ, zero, suc, ◌+◌, ◌*◌, ◌-◌, ◌≤◌, ◌<◌, min}
 use native.Mathlib.Omega.{arith}
 use native.Mathlib.Decide.{dec_lt}
-use mathlib.Core.Path.{◌≡◌, refl, sym, ap, ap₂, subst, ◌∙◌}
+use mathlib.Core.Path.{◌≡◌, refl, sym, ap, ap₂, ◌∙◌}
 use mathlib.Core.Logic.{◌⊎◌, ⊎_elim, inl as left, inr as right}
 use mathlib.Core.List.{List, [], ◌∷◌, map}
 use lib.ListN.{length, get_or, set, length-set}
@@ -14,16 +14,18 @@ use package.Rattle.calls.specs.Entries.{n_var, n_call, term_of_kind, call_ancill
 use package.Rattle.program.specs.Parts.{variable, first, second, third, listed as listed_at, result_of, body, TermField, FunctionField}
 use package.Rattle.program.proofs.Shapes.{term-var, term-unit, term_case, term-call, term_by}
 use package.Rattle.program.proofs.Rooms.{term-kind, two-room}
-use package.Rattle.program.specs.Kinds.{variable_kind, unit_kind, case_kind, call_kind, term_kinds}
+use package.Rattle.program.specs.Kinds.{variable_kind, unit_kind, case_kind, call_kind}
+use package.Rattle.program.specs.KindNumbers.{term_kind_number}
+use package.Rattle.program.specs.declared.kinds.TermKind.{TermKind}
 use package.Rattle.decoded.specs.Rows.{row_numbers, function_rows, counts_at, code_numbers, room_for, kind_in, first_in, second_in, third_in, argument_in}
 use package.Rattle.decoded.specs.Rows.{arguments_in, ancillae_in, parameters_in, body_in, term_count, function_count, entry_in, function_in, terms_in}
 use package.Rattle.decoded.specs.Rows.{functions_in, listed, names_in, named}
 use package.Rattle.decoded.specs.Naming.{RowAsked, RowsNamed}
 use package.Rattle.varsets.specs.Sets.{Holds}
-use package.Rattle.decoded.proofs.Trees.{Two}
+use package.Rattle.decoded.proofs.Trees.{Two, by_two, two_no-call, two_no-variable}
 use package.Rattle.decoded.proofs.Sets as law
 use package.Rattle.decoded.proofs.Sets.{entry_kept}
-use package.Rattle.decoded.specs.Decoding.{FieldOfRow, FieldsOfTerms, FieldsOfFunctions, Beside, Heads, Listed, TermRow, TermPut, FunctionRow, FunctionPut, TermRows, FunctionRows, Decodes}
+use package.Rattle.decoded.specs.Decoding.{FieldOfRow, FieldsOfTerms, Beside, Heads, Listed, TermRow, TermPut, FunctionRow, FunctionPut, TermRows, FunctionRows, Decodes}
 use package.Rattle.decoded.proofs.Agreeing.{Same, kind-same, first-same, third-same, names_same, entry-same, function-same, listed-map}
 
 ----------------------------------------------------------------
@@ -68,47 +70,28 @@ unfolding term_of_kind
 put_case {p = p} {at} H k ea eb ec = put-plain H (sym k) (λ q. omega arith) (λ q. absurd (omega arith)) (rw (ea, eb, ec) (sym (term_case p at k)))
 
 -- a kind with two references, which says nothing of the other numbers
-two-references : (k a b c n t c' n' t' : ℕ) (ts ts' : List ℕ) → ¬ (k ≡ variable_kind) → ¬ (k ≡ unit_kind) → ¬ (k ≡ case_kind) → ¬ (k ≡ call_kind)
-    → term_of_kind k a b c n ts t ≡ term_of_kind k a b c' n' ts' t'
+two-references : {x : TermKind} (a b c n t c' n' t' : ℕ) (ts ts' : List ℕ) → Two x
+    → term_of_kind (term_kind_number x) a b c n ts t ≡ term_of_kind (term_kind_number x) a b c' n' ts' t'
 unfolding term_of_kind
-two-references zero a b c n t c' n' t' ts ts' d e f g = absurd (d refl)
-two-references (suc zero) a b c n t c' n' t' ts ts' d e f g = absurd (e refl)
-two-references (suc (suc zero)) a b c n t c' n' t' ts ts' d e f g = refl
-two-references (suc (suc (suc zero))) a b c n t c' n' t' ts ts' d e f g = refl
-two-references (suc (suc (suc (suc zero)))) a b c n t c' n' t' ts ts' d e f g = refl
-two-references (suc (suc (suc (suc (suc zero))))) a b c n t c' n' t' ts ts' d e f g = refl
-two-references (suc (suc (suc (suc (suc (suc zero)))))) a b c n t c' n' t' ts ts' d e f g = refl
-two-references (suc (suc (suc (suc (suc (suc (suc zero))))))) a b c n t c' n' t' ts ts' d e f g = absurd (f refl)
-two-references (suc (suc (suc (suc (suc (suc (suc (suc zero)))))))) a b c n t c' n' t' ts ts' d e f g = absurd (g refl)
-two-references (suc (suc (suc (suc (suc (suc (suc (suc (suc zero))))))))) a b c n t c' n' t' ts ts' d e f g = refl
-two-references (suc (suc (suc (suc (suc (suc (suc (suc (suc (suc k)))))))))) a b c n t c' n' t' ts ts' d e f g = refl
+two-references a b c n t c' n' t' ts ts' w = by_two (λ x. term_of_kind (term_kind_number x) a b c n ts t ≡ term_of_kind (term_kind_number x) a b c' n' ts' t')
+    refl refl refl refl refl refl refl w
 
 -- such a kind's field has both references
-two-long : (k : ℕ) → k < term_kinds → ¬ (k ≡ variable_kind) → ¬ (k ≡ unit_kind) → ¬ (k ≡ case_kind) → ¬ (k ≡ call_kind) → get_or term_lengths k 0 ≡ 5
+two-long : {x : TermKind} → Two x → get_or term_lengths (term_kind_number x) 0 ≡ 5
 unfolding term_lengths
-two-long zero l d e f g = absurd (d refl)
-two-long (suc zero) l d e f g = absurd (e refl)
-two-long (suc (suc zero)) l d e f g = refl
-two-long (suc (suc (suc zero))) l d e f g = refl
-two-long (suc (suc (suc (suc zero)))) l d e f g = refl
-two-long (suc (suc (suc (suc (suc zero))))) l d e f g = refl
-two-long (suc (suc (suc (suc (suc (suc zero)))))) l d e f g = refl
-two-long (suc (suc (suc (suc (suc (suc (suc zero))))))) l d e f g = absurd (f refl)
-two-long (suc (suc (suc (suc (suc (suc (suc (suc zero)))))))) l d e f g = absurd (g refl)
-two-long (suc (suc (suc (suc (suc (suc (suc (suc (suc zero))))))))) l d e f g = refl
-two-long (suc (suc (suc (suc (suc (suc (suc (suc (suc (suc zero)))))))))) l d e f g = refl
-two-long (suc (suc (suc (suc (suc (suc (suc (suc (suc (suc (suc k))))))))))) l d e f g = absurd (omega arith)
+two-long w = by_two (λ x. get_or term_lengths (term_kind_number x) 0 ≡ 5) refl refl refl refl refl refl refl w
 
-pub two-there : {p : List ℕ} {at k : ℕ} → TermField p at → k ≡ kind_at p at → Two k → at + 8 ≤ length p
-two-there {k = k} F e ((((u, d₀), d₁), d₇), d₈) =
-    let l : k < term_kinds = omega (arith, term-kind F) in two-room F (sym e) (two-long k l d₀ d₁ d₇ d₈)
+pub two-there : {p : List ℕ} {at : ℕ} {x : TermKind} → TermField p at → term_kind_number x ≡ kind_at p at → Two x → at + 8 ≤ length p
+two-there F e w = two-room F (sym e) (two-long w)
 
-pub put_two : {code code' : List ℕ} {t k a b : ℕ} {p : List ℕ} {at : ℕ} → Heads code code' t k a b 0 → k ≡ kind_at p at → Two k → a ≡ first p at
-    → b ≡ second p at → TermPut code code' t p at
-put_two {k = k} {a} {b} {p = p} {at} H e ((((u, d₀), d₁), d₇), d₈) ea eb =
-    put-plain H e d₈ (λ q. absurd (d₀ q))
-    (two-references k a b _ _ _ (third p at) (variable p at) _ _ (references p (at + 6) (call_ancillae (length_at p at))) d₀ d₁ d₇ d₈
-    ∙ ap₂ (λ a b. term_of_kind k a b (third p at) (variable p at) (references p (at + 6) (call_ancillae (length_at p at)))
+pub put_two : {code code' : List ℕ} {t k a b : ℕ} {p : List ℕ} {at : ℕ} {x : TermKind} → Heads code code' t k a b 0 → k ≡ term_kind_number x
+    → term_kind_number x ≡ kind_at p at → Two x → a ≡ first p at → b ≡ second p at → TermPut code code' t p at
+put_two {code' = code'} {t = t} {k = k} {a = a} {b = b} {p = p} {at = at} {x = x} H n e w ea eb =
+    put-plain H (n ∙ e) (λ q. two_no-call w (sym n ∙ q)) (λ q. absurd (two_no-variable w (sym n ∙ q)))
+    (ap (λ k. term_of_kind k a b 0 a (arguments_in code' t 0 (min room_for 0)) (argument_in code' t (min room_for 0))) n
+    ∙ two-references a b 0 a (argument_in code' t (min room_for 0)) (third p at) (variable p at) (listed_at p at (call_ancillae (length_at p at))) (arguments_in code' t 0 (min room_for 0))
+    (references p (at + 6) (call_ancillae (length_at p at))) w
+    ∙ ap₂ (λ a b. term_of_kind (term_kind_number x) a b (third p at) (variable p at) (references p (at + 6) (call_ancillae (length_at p at)))
     (listed_at p at (call_ancillae (length_at p at)))) ea eb
     ∙ sym (term_by p at (sym e)))
 
@@ -218,9 +201,6 @@ function-row-same {g = g} S R = record { entry = function-same g S ∙ R.entry; 
 pub term-asked : {p terms : List ℕ} {t at : ℕ} → FieldsOfTerms p terms → t < length terms → at ≡ get_or terms t 0 → FieldOfRow p at
 term-asked T l e = rw e (T.row _ l)
 
-pub function-asked : {p functions : List ℕ} {g at : ℕ} → FieldsOfFunctions p functions → g < length functions → at ≡ get_or functions g 0 → FunctionField p at
-function-asked F l e = rw e (F.field _ l)
-
 pub no_rows : (code p terms : List ℕ) → TermRows code code p terms 0
 no_rows code p terms = record { lengths = refl; row = λ t l. absurd (omega arith) }
 
@@ -231,12 +211,6 @@ rows_more {code} {code₁} {code₂} {p} {terms} {n} R here P = record { lengths
     go : (t : ℕ) → Dec (t < n) → t < n + 1 → TermRow code₂ t p (get_or terms t 0)
     go t (yes l) h = row_same (same_beside P.beside (λ e. omega arith)) (R.row t l)
     go t (no l) h = let e : t ≡ n = omega arith in rw (e, sym here) P.row
-
-pub rows_whole : {code code' p terms : List ℕ} {n m : ℕ} → TermRows code code' p terms n → n ≡ m → TermRows code code' p terms m
-rows_whole {code} {code'} {p} {terms} R e = subst (TermRows code code' p terms) e R
-
-pub no-functions : (code p functions : List ℕ) → FunctionRows code code p functions 0
-no-functions code p functions = record { lengths = refl; row = λ g l. absurd (omega arith); before = λ j l. refl }
 
 pub functions_more : {code code₁ code₂ p functions : List ℕ} {n at : ℕ} → FunctionRows code code₁ p functions n → at ≡ get_or functions n 0
     → FunctionPut code₁ code₂ n p at
@@ -250,9 +224,6 @@ functions_more {code} {code₁} {code₂} {p} {functions} {n} R here P = record 
     go : (g : ℕ) → Dec (g < n) → g < n + 1 → FunctionRow code₂ g p (get_or functions g 0)
     go g (yes l) h = function-row-same (same_beside P.beside (λ e. omega arith)) (R.row g l)
     go g (no l) h = let e : g ≡ n = omega arith in rw (e, sym here) P.row
-
-pub functions_whole : {code code' p functions : List ℕ} {n m : ℕ} → FunctionRows code code' p functions n → n ≡ m → FunctionRows code code' p functions m
-functions_whole {code} {code'} {p} {functions} R e = subst (FunctionRows code code' p functions) e R
 
 ----------------------------------------------------------------
 -- The variables that the terms name

@@ -2,7 +2,7 @@
 use Prim.Native.Nat.{ℕ, ◌+◌, ◌*◌, ◌≤◌, ◌<◌}
 use native.Mathlib.Omega.{arith}
 use native.Mathlib.Decide.{dec_lt}
-use mathlib.Core.Path.{◌≡◌, refl, subst, ◌∙◌}
+use mathlib.Core.Path.{◌≡◌, ◌∙◌}
 use mathlib.Core.Logic.{◌⊎◌, ⊎_elim, inl as left, inr as right}
 use mathlib.Core.List.{List}
 use lib.ListN.{length, get_or, set, length-set}
@@ -54,14 +54,6 @@ module _ (code : List ℕ) (r kind a b c : ℕ) (room : row_numbers * r + 4 ≤ 
 
 ----------------------------------------------------------------
 -- References behind it
-
--- none yet
-pub none_listed : (code : List ℕ) (r : ℕ) (p : List ℕ) (i : ℕ) → Listed code code r p i 0
-none_listed code r p i = record { lengths = refl; arguments = λ k l. absurd (omega arith); others = λ j h. refl }
-
--- all
-pub listed_whole : {code code' : List ℕ} {r : ℕ} {p : List ℕ} {i n m : ℕ} → Listed code code' r p i n → n ≡ m → Listed code code' r p i m
-listed_whole {code} {code'} {r} {p} {i} L e = subst (Listed code code' r p i) e L
 
 -- one more
 pub listed_more : {code code' code'' : List ℕ} {r : ℕ} {p : List ℕ} {i n x at : ℕ} → Listed code code' r p i n → at ≡ row_numbers * r + 4 + n

@@ -14,14 +14,17 @@ use package.Rattle.calls.specs.Entries.{type_of, TermEntry, n_case, term_tree}
 use package.Rattle.calls.specs.Named.{terms_of_term, below}
 use package.Rattle.calls.proofs.Entries.{below-head, below_wider}
 use package.Rattle.calls.proofs.Trees.{term-unfolds}
-use package.Rattle.program.specs.Kinds.{variable_kind, unit_kind, pair_kind, case_kind, call_kind, term_kinds}
+use package.Rattle.program.specs.Kinds.{variable_kind, unit_kind, case_kind, call_kind}
+use package.Rattle.program.specs.KindNumbers.{term_kind_number}
+use package.Rattle.program.specs.declared.kinds.TermKind.{TermKind}
+use package.Rattle.program.specs.declared.kinds.TermKind.TheVariants.{Inl, Inr, Pair, Let, LetPair, Roll, Unroll}
 use package.Rattle.varsets.specs.declared.Uses.{Uses}
 use package.Rattle.varsets.specs.Sets.{has, Holds, nobody, alone, joined, low_half, high_half, of_halves}
 use package.Rattle.varsets.proofs.Inside.{halves_whole}
 use package.Rattle.decoded.specs.Rows.{row_numbers, row_heads, kind_in, first_in, second_in, third_in, argument_in, arguments_in, entry_in, listed, names_in, named}
 use package.Rattle.decoded.specs.Naming.{set_in, has_set, numbers_from, any_of, named_by, RowAsked, ScrutineePut, RowKept, tree_of, RowsNamed}
 use package.Rattle.decoded.proofs.Agreeing.{entry-same, listed-entry, listed-lower}
-use package.Rattle.decoded.proofs.Trees.{Two, entry-var, entry-unit, entry_inl, entry_inr, entry-pair, entry_let, entry_letp, entry_case}
+use package.Rattle.decoded.proofs.Trees.{entry-var, entry-unit, entry_inl, entry_inr, entry-pair, entry_let, entry_letp, entry_case}
 use package.Rattle.decoded.proofs.Trees.{entry-call, entry-roll, entry_unroll}
 use package.Rattle.decoded.proofs.Named.{or_none_lem, or_assoc, named_tree}
 
@@ -110,19 +113,12 @@ module _ (code : List ℕ) (t : ℕ) where
       ∙ ap (λ m. arguments_in code t (k + 1) n ++ (argument_in code t m ∷ [])) (let z : k + 1 + n ≡ k + suc n = omega arith in z))
 
   -- of a pair or a let
-  pub parts-two : {from k : ℕ} → from ≡ row_numbers * t + 1 → k ≡ kind_in code t → pair_kind ≤ k → k < case_kind → Parts code t from 2
+  pub parts-two : {from : ℕ} {x : TermKind} → from ≡ row_numbers * t + 1 → term_kind_number x ≡ kind_in code t
+      → (x ≡ Pair) ⊎ ((x ≡ Let) ⊎ (x ≡ LetPair)) → Parts code t from 2
   unfolding named_by terms_of_term
-  parts-two {from} {k} f q = go k (sym q)
-    where
-      go : (k : ℕ) → kind_in code t ≡ k → pair_kind ≤ k → k < case_kind → Parts code t from 2
-      go zero e l h = absurd (omega arith)
-      go (suc zero) e l h = absurd (omega arith)
-      go (suc (suc zero)) e l h = absurd (omega arith)
-      go (suc (suc (suc zero))) e l h = absurd (omega arith)
-      go (suc (suc (suc (suc zero)))) e l h = parts_by from 2 (entry-pair code t e) (two-numbers f) (λ S i. refl)
-      go (suc (suc (suc (suc (suc zero))))) e l h = parts_by from 2 (entry_let code t e) (two-numbers f) (λ S i. refl)
-      go (suc (suc (suc (suc (suc (suc zero)))))) e l h = parts_by from 2 (entry_letp code t e) (two-numbers f) (λ S i. refl)
-      go (suc (suc (suc (suc (suc (suc (suc k))))))) e l h = absurd (omega arith)
+  parts-two {from} f q (left e) = parts_by from 2 (entry-pair code t (sym q ∙ ap term_kind_number e)) (two-numbers f) (λ S i. refl)
+  parts-two {from} f q (right (left e)) = parts_by from 2 (entry_let code t (sym q ∙ ap term_kind_number e)) (two-numbers f) (λ S i. refl)
+  parts-two {from} f q (right (right e)) = parts_by from 2 (entry_letp code t (sym q ∙ ap term_kind_number e)) (two-numbers f) (λ S i. refl)
 
   pub parts_case : {from : ℕ} → from ≡ row_numbers * t + 1 → kind_in code t ≡ case_kind → Parts code t from 3
   unfolding named_by terms_of_term
@@ -136,27 +132,14 @@ module _ (code : List ℕ) (t : ℕ) where
       ∙ ap (λ k. arguments_in code t 0 (third_in code t) ++ (argument_in code t k ∷ [])) (let z : 0 + third_in code t ≡ third_in code t = omega arith in z))
       (λ S i. refl))
 
-  -- of a kind with a type and a term: no pair and no let, and none of the kinds that a match leaves
-  pub parts-one : {from k : ℕ} → from ≡ row_numbers * t + 2 → RowAsked code t → k ≡ kind_in code t → Two k → (pair_kind ≤ k → k < case_kind → ⊥)
-      → Parts code t from 1
+  -- of a kind with a type and a term
+  pub parts-one : {from : ℕ} {x : TermKind} → from ≡ row_numbers * t + 2 → term_kind_number x ≡ kind_in code t
+      → (x ≡ Inl) ⊎ ((x ≡ Inr) ⊎ ((x ≡ Roll) ⊎ (x ≡ Unroll))) → Parts code t from 1
   unfolding named_by terms_of_term
-  parts-one {from} {k} f R q ((((u, d₀), d₁), d₇), d₈) d = go k (sym q) (rw q R.known) d d₀ d₁ d₇ d₈
-    where
-      go : (k : ℕ) → kind_in code t ≡ k → k < term_kinds → (pair_kind ≤ k → k < case_kind → ⊥) → ¬ (k ≡ variable_kind) → ¬ (k ≡ unit_kind) → ¬ (k ≡ case_kind)
-          → ¬ (k ≡ call_kind) → Parts code t from 1
-      go zero e l d d₀ d₁ d₇ d₈ = absurd (d₀ refl)
-      go (suc zero) e l d d₀ d₁ d₇ d₈ = absurd (d₁ refl)
-      go (suc (suc zero)) e l d d₀ d₁ d₇ d₈ = parts_by from 1 (entry_inl code t e) (second-number f) (λ S i. refl)
-      go (suc (suc (suc zero))) e l d d₀ d₁ d₇ d₈ = parts_by from 1 (entry_inr code t e) (second-number f) (λ S i. refl)
-      go (suc (suc (suc (suc zero)))) e l d d₀ d₁ d₇ d₈ = absurd (d (omega arith) (omega arith))
-      go (suc (suc (suc (suc (suc zero))))) e l d d₀ d₁ d₇ d₈ = absurd (d (omega arith) (omega arith))
-      go (suc (suc (suc (suc (suc (suc zero)))))) e l d d₀ d₁ d₇ d₈ = absurd (d (omega arith) (omega arith))
-      go (suc (suc (suc (suc (suc (suc (suc zero))))))) e l d d₀ d₁ d₇ d₈ = absurd (d₇ refl)
-      go (suc (suc (suc (suc (suc (suc (suc (suc zero)))))))) e l d d₀ d₁ d₇ d₈ = absurd (d₈ refl)
-      go (suc (suc (suc (suc (suc (suc (suc (suc (suc zero))))))))) e l d d₀ d₁ d₇ d₈ = parts_by from 1 (entry-roll code t e) (second-number f) (λ S i. refl)
-      go (suc (suc (suc (suc (suc (suc (suc (suc (suc (suc zero)))))))))) e l d d₀ d₁ d₇ d₈ =
-          parts_by from 1 (entry_unroll code t e) (second-number f) (λ S i. refl)
-      go (suc (suc (suc (suc (suc (suc (suc (suc (suc (suc (suc k))))))))))) e l d d₀ d₁ d₇ d₈ = absurd (omega arith)
+  parts-one {from} f q (left e) = parts_by from 1 (entry_inl code t (sym q ∙ ap term_kind_number e)) (second-number f) (λ S i. refl)
+  parts-one {from} f q (right (left e)) = parts_by from 1 (entry_inr code t (sym q ∙ ap term_kind_number e)) (second-number f) (λ S i. refl)
+  parts-one {from} f q (right (right (left e))) = parts_by from 1 (entry-roll code t (sym q ∙ ap term_kind_number e)) (second-number f) (λ S i. refl)
+  parts-one {from} f q (right (right (right e))) = parts_by from 1 (entry_unroll code t (sym q ∙ ap term_kind_number e)) (second-number f) (λ S i. refl)
 
   ----------------------------------------------------------------
   -- Rows without terms
@@ -238,9 +221,6 @@ part-there {code} {t} {j} R e l from below =
     (number-below max_terms code (row_numbers * t + 1) 3 (j - (row_numbers * t + 1)) (parts_below (parts_case code t refl e) R l) (omega arith))
 
 module _ {code sets : List ℕ} {t : ℕ} where
-  pub no-scrutinee : ¬ (kind_in code t ≡ case_kind) → ScrutineePut code code sets t
-  no-scrutinee d = record { lengths = refl; names = λ e. absurd (d e); others = λ j h. refl; unless = λ d. refl }
-
   pub scrutinee-put : {u : Uses} {at low high : ℕ} → at ≡ row_numbers * t + row_heads → at + 2 ≤ length code → kind_in code t ≡ case_kind
       → u ≡ set_in sets (first_in code t) → low ≡ low_half u → high ≡ high_half u → ScrutineePut code (set (set code at low) (at + 1) high) sets t
   unfolding names_in

@@ -4,6 +4,7 @@ use native.Mathlib.Omega.{arith}
 use native.Mathlib.Decide.{dec_lt}
 use mathlib.Core.Path.{◌≡◌, refl, sym, ap, subst, ◌∙◌}
 use mathlib.Core.Bool.{true}
+use mathlib.Core.Logic.{◌⊎◌, inl as left, inr as right}
 use mathlib.Core.Option.{some}
 use mathlib.Core.List.{List, [], ◌∷◌, ◌++◌}
 use lib.ListN.{length, get_or, length-map}
@@ -16,6 +17,9 @@ use package.Rattle.calls.specs.Tested.{LowerTerms}
 use package.Rattle.calls.proofs.Entries.{below-head}
 use package.Rattle.calls.proofs.Trees.{term-unfolds}
 use package.Rattle.program.specs.Kinds.{variable_kind, unit_kind, inl_kind, inr_kind, pair_kind, let_kind, let_pair_kind, case_kind, call_kind, roll_kind, unroll_kind, term_kinds}
+use package.Rattle.program.specs.KindNumbers.{term_kind_number}
+use package.Rattle.program.specs.declared.kinds.TermKind.{TermKind}
+use package.Rattle.program.specs.declared.kinds.TermKind.TheVariants.{Inl, Inr, Pair, Let, LetPair, Roll, Unroll}
 use package.Rattle.decoded.specs.Rows.{room_for, kind_in, first_in, second_in, third_in, argument_in, arguments_in, ancillae_in, body_in, term_count}
 use package.Rattle.decoded.specs.Rows.{function_count, entry_in, function_in, terms_in, functions_in, tree_in, program_in, Rows}
 use package.Rattle.decoded.proofs.Agreeing.{length-listed, nth-listed, listed-entry, listed-lower}
@@ -79,9 +83,32 @@ module _ (code : List ℕ) (t : ℕ) where
   unfolding term_of_kind
   entry_unroll e = entry_by e
 
--- none of the kinds of variable, unit, case, call, as a match on these leaves it: two references
-abbrev pub Two : ℕ → Type 0
-Two k = (((Unit {0} × ¬ (k ≡ variable_kind)) × ¬ (k ≡ unit_kind)) × ¬ (k ≡ case_kind)) × ¬ (k ≡ call_kind)
+-- a kind with two references and no other
+abbrev pub Two : TermKind → Type 0
+Two x = (x ≡ Inl) ⊎ ((x ≡ Inr) ⊎ ((x ≡ Pair) ⊎ ((x ≡ Let) ⊎ ((x ≡ LetPair) ⊎ ((x ≡ Roll) ⊎ (x ≡ Unroll))))))
+
+pub by_two : (P : TermKind → Type 0) → P Inl → P Inr → P Pair → P Let → P LetPair → P Roll → P Unroll → {x : TermKind} → Two x → P x
+by_two P a b c d e f g w = go w
+  where
+    at : {x y : TermKind} → P y → x ≡ y → P x
+    at p q = subst P (sym q) p
+
+    go : {x : TermKind} → Two x → P x
+    go (left q) = at a q
+    go (right (left q)) = at b q
+    go (right (right (left q))) = at c q
+    go (right (right (right (left q)))) = at d q
+    go (right (right (right (right (left q))))) = at e q
+    go (right (right (right (right (right (left q)))))) = at f q
+    go (right (right (right (right (right (right q)))))) = at g q
+
+pub two_no-call : {x : TermKind} → Two x → ¬ (term_kind_number x ≡ call_kind)
+two_no-call w = by_two (λ x. ¬ (term_kind_number x ≡ call_kind)) (λ e. omega arith) (λ e. omega arith) (λ e. omega arith) (λ e. omega arith)
+    (λ e. omega arith) (λ e. omega arith) (λ e. omega arith) w
+
+pub two_no-variable : {x : TermKind} → Two x → ¬ (term_kind_number x ≡ variable_kind)
+two_no-variable w = by_two (λ x. ¬ (term_kind_number x ≡ variable_kind)) (λ e. omega arith) (λ e. omega arith) (λ e. omega arith) (λ e. omega arith)
+    (λ e. omega arith) (λ e. omega arith) (λ e. omega arith) w
 
 -- none of section 1's kinds, as a match on all of them leaves it
 abbrev pub NoKind : ℕ → Type 0

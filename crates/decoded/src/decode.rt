@@ -4,12 +4,14 @@ ghost use Rattle.rules.specs.Limits.{max_terms, max_functions};
 ghost use Rattle.calls.specs.Fields.{kind_at};
 ghost use Rattle.program.specs.Parts.{FunctionField};
 ghost use Rattle.program.specs.Kinds.{call_kind};
+ghost use Rattle.program.specs.KindNumbers.{term_kind_number};
 ghost use Rattle.decoded.specs.Rows.{room_for, all_rows, code_numbers};
 ghost use Rattle.decoded.specs.Decoding.{FieldOfRow, FieldsOfTerms, FieldsOfFunctions, Heads, Listed, TermPut, FunctionPut, TermRows, FunctionRows, Decodes};
 
 use crate::naming;
 use crate::rows::{CODE, COUNTS, FUNCTIONS_FROM, HEADS, ROW};
-use program::{kinds, views};
+use program::kinds::TermKind;
+use program::views;
 
 // The first four numbers of a row.
 fn put_heads(code: &mut [u16; CODE], row: usize, kind: u16, a: u16, b: u16, c: u16)
@@ -30,11 +32,16 @@ fn put_listed(code: &mut [u16; CODE], row: usize, p: &[u8], from: usize, n: usiz
     requires row_lt_all_rows { (row < all_rows) × (n ≤ room_for + 1) × (from + 2 * n ≤ length p.now) }
     ensures { Listed code.old code.new row p.now from n }
 {
-    let mut k = 0;
-    while k < n {
+    for k in 0..n {
         code[ROW * row + HEADS + k] = octets::read16(p, from + 2 * k);
-        k += 1;
     }
+}
+
+// The number of a kind, which its rows have.
+fn number_of(kind: TermKind) -> u16
+    ensures { result ≡ term_kind_number kind }
+{
+    kind as u16
 }
 
 // The row of term t, whose field is at `at`.
@@ -43,42 +50,34 @@ fn put_term(code: &mut [u16; CODE], t: usize, p: &[u8], at: usize)
     requires t_lt_max_terms { (t < max_terms) × FieldOfRow p.now at }
     ensures { TermPut code.old code.new t p.now at }
 {
-    let kind = views::kind(p, at);
+    let kind = views::term_kind(p, at);
+    let number = number_of(kind);
     match kind {
-        kinds::VARIABLE => put_heads(
+        TermKind::Variable => put_heads(code, t, number, u16::from(views::variable(p, at)), 0, 0),
+        TermKind::Unit => put_heads(code, t, number, 0, 0, 0),
+        TermKind::Inl
+        | TermKind::Inr
+        | TermKind::Pair
+        | TermKind::Let
+        | TermKind::LetPair
+        | TermKind::Roll
+        | TermKind::Unroll => put_heads(
             code,
             t,
-            crate::kinds::VARIABLE,
-            octets::wide16(views::variable(p, at)),
-            0,
-            0,
-        ),
-        kinds::UNIT => put_heads(code, t, crate::kinds::UNIT, 0, 0, 0),
-        kinds::INL
-        | kinds::INR
-        | kinds::PAIR
-        | kinds::LET
-        | kinds::LET_PAIR
-        | kinds::ROLL
-        | kinds::UNROLL => put_heads(
-            code,
-            t,
-            octets::wide16(kind),
+            number,
             views::first(p, at),
             views::second(p, at),
             0,
         ),
-        kinds::CASE => put_heads(
+        TermKind::Case => put_heads(
             code,
             t,
-            crate::kinds::CASE,
+            number,
             views::first(p, at),
             views::second(p, at),
             views::third(p, at),
         ),
-        kinds::CALL => put_call(code, t, p, at),
-        // never met: there is no other kind
-        _ => put_heads(code, t, 0, 0, 0, 0),
+        TermKind::Call => put_call(code, t, p, at),
     }
 }
 
@@ -93,7 +92,7 @@ fn put_call(code: &mut [u16; CODE], t: usize, p: &[u8], at: usize)
     put_heads(
         code,
         t,
-        crate::kinds::CALL,
+        number_of(TermKind::Call),
         views::first(p, at),
         0,
         n as u16,
@@ -121,10 +120,8 @@ fn put_terms(code: &mut [u16; CODE], p: &[u8], terms: &[u16])
     requires fields_of_terms { FieldsOfTerms p.now terms.now }
     ensures { TermRows code.old code.new p.now terms.now (length terms.now) }
 {
-    let mut t = 0;
-    while t < terms.len() {
-        put_term(code, t, p, octets::wide_index(terms[t]));
-        t += 1;
+    for (t, at) in terms.iter().enumerate() {
+        put_term(code, t, p, usize::from(*at));
     }
 }
 
@@ -134,10 +131,8 @@ fn put_functions(code: &mut [u16; CODE], p: &[u8], functions: &[u16])
     requires fields_of_functions { FieldsOfFunctions p.now functions.now }
     ensures { FunctionRows code.old code.new p.now functions.now (length functions.now) }
 {
-    let mut g = 0;
-    while g < functions.len() {
-        put_function(code, g, p, octets::wide_index(functions[g]));
-        g += 1;
+    for (g, at) in functions.iter().enumerate() {
+        put_function(code, g, p, usize::from(*at));
     }
 }
 

@@ -3,6 +3,5 @@
 #![tactic(auto)]
 
 pub mod decode;
-pub mod kinds;
 pub mod naming;
 pub mod rows;

@@ -7,8 +7,9 @@ ghost use Rattle.varsets.specs.Sets.{Holds};
 ghost use Rattle.decoded.specs.Rows.{code_numbers, entry_in};
 ghost use Rattle.decoded.specs.Naming.{set_in, has_set, numbers_from, any_of, named_by, RowAsked, ScrutineePut, RowsNamed};
 
+use crate::rows;
 use crate::rows::{CODE, HEADS, ROW};
-use crate::{kinds, rows};
+use program::kinds::TermKind;
 use rules::MAX_TERMS;
 use varsets::Uses;
 
@@ -17,8 +18,9 @@ fn set_of(sets: &[u32; MAX_TERMS], t: u16) -> Uses
     requires { t < max_terms }
     ensures { result ≡ set_in sets.now t }
 {
-    let at = octets::wide_index(t);
-    Uses { bits: sets[at] }
+    Uses {
+        bits: sets[usize::from(t)],
+    }
 }
 
 // The variables of n terms together, whose numbers stand from number `from` of the rows on.
@@ -28,11 +30,8 @@ fn union_of(code: &[u16; CODE], sets: &[u32; MAX_TERMS], from: usize, n: usize) 
     ensures { Holds result (any_of (has_set sets.now) (numbers_from code.now from n)) }
 {
     let mut names = Uses::none();
-    let mut k = 0;
-    while k < n {
-        let part = set_of(sets, code[from + k]);
-        names = names.union(part);
-        k += 1;
+    for part in &code[from..from + n] {
+        names = names.union(set_of(sets, *part));
     }
     names
 }
@@ -42,19 +41,20 @@ fn names_of(code: &[u16; CODE], sets: &[u32; MAX_TERMS], t: u16) -> Uses
     requires { (t < max_terms) × RowAsked code.now t }
     ensures { Holds result (named_by (has_set sets.now) (entry_in code.now t)) }
 {
-    let row = ROW * octets::wide_index(t);
-    let kind = rows::kind_of(code, t);
-    match kind {
-        kinds::VARIABLE => Uses::only(rows::first_of(code, t) as u8),
-        kinds::UNIT => Uses::none(),
-        kinds::PAIR | kinds::LET | kinds::LET_PAIR => union_of(code, sets, row + 1, 2),
-        kinds::CASE => union_of(code, sets, row + 1, 3),
-        kinds::CALL => {
-            let ancillae = octets::wide_index(rows::third_of(code, t));
+    let row = ROW * usize::from(t);
+    match rows::row_kind(code, t) {
+        TermKind::Variable => Uses::only(rows::first_of(code, t) as u8),
+        TermKind::Unit => Uses::none(),
+        // a type, then a term
+        TermKind::Inl | TermKind::Inr | TermKind::Roll | TermKind::Unroll => {
+            union_of(code, sets, row + 2, 1)
+        }
+        TermKind::Pair | TermKind::Let | TermKind::LetPair => union_of(code, sets, row + 1, 2),
+        TermKind::Case => union_of(code, sets, row + 1, 3),
+        TermKind::Call => {
+            let ancillae = usize::from(rows::third_of(code, t));
             union_of(code, sets, row + HEADS, ancillae + 1)
         }
-        // a type, then a term
-        _ => union_of(code, sets, row + 2, 1),
     }
 }
 
@@ -64,10 +64,10 @@ fn put_scrutinee(code: &mut [u16; CODE], sets: &[u32; MAX_TERMS], t: u16)
     requires t_lt_max_terms { (t < max_terms) × RowAsked code.old t }
     ensures { ScrutineePut code.old code.new sets.now t }
 {
-    if rows::kind_of(code, t) != kinds::CASE {
+    let TermKind::Case = rows::row_kind(code, t) else {
         return;
-    }
-    let row = ROW * octets::wide_index(t);
+    };
+    let row = ROW * usize::from(t);
     let names = set_of(sets, code[row + 1]);
     let at = row + HEADS;
     code[at] = names.low_half();
@@ -81,11 +81,9 @@ pub fn put_names(code: &mut [u16; CODE], n: u16)
     ensures { RowsNamed code.old code.new n n }
 {
     let mut sets = [0u32; MAX_TERMS];
-    let mut t: u16 = 0;
-    while t < n {
+    for t in 0..n {
         let names = names_of(code, &sets, t);
-        sets[octets::wide_index(t)] = names.bits;
+        sets[usize::from(t)] = names.bits;
         put_scrutinee(code, &sets, t);
-        t += 1;
     }
 }

@@ -4,6 +4,7 @@ use native.Mathlib.Omega.{arith}
 use mathlib.Core.Path.{◌≡◌, refl, sym, ap, ◌∙◌}
 use mathlib.Core.Bool.{true, false, cond}
 use mathlib.Core.List.{List}
+use Rattle.std.specs.Prelude.{Result, Ok, Err}
 use lib.ListN.{length, replicate}
 use lib.Dec.{leb}
 use package.Rattle.rules.proofs.Basics.{eqb-differs}
@@ -15,7 +16,8 @@ use package.Rattle.calls.specs.Conversions.{Turned}
 use package.Rattle.types.specs.Layout.{typing_bytes}
 use package.Rattle.requests.proofs.Beginning.{enough-types}
 use package.Rattle.answers.specs.Answers.{run_answer, open_answer, held_answer, summary, Later, accepts, refuses}
-use package.Rattle.answers.specs.declared.RunAnswer.{RunAnswer}
+use package.Rattle.answers.specs.declared.Done.{Done}
+use package.Rattle.answers.specs.declared.Refusal.{Refusal}
 
 ----------------------------------------------------------------
 -- Row Workspace
@@ -61,5 +63,5 @@ cleared-opened (accepted j) ws = refl
 cleared-opened (refused n p) ws = refl
 
 -- what a run answers tells whether its workspace is cleared
-pub cleared-run : (r : RunAnswer) (a : Answer Ran) (ws : List ℕ) → run_answer r ≡ summary a → Later (run_answer r) → cleared a ws ≡ replicate (length ws) 0
+pub cleared-run : (r : Result Done Refusal) (a : Answer Ran) (ws : List ℕ) → run_answer r ≡ summary a → Later (run_answer r) → cleared a ws ≡ replicate (length ws) 0
 cleared-run r a ws e l = sym (cleared-summary a ws) ∙ ap (λ s. cleared s ws) (sym e) ∙ cleared_later ws l

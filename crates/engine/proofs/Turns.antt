@@ -1,8 +1,9 @@
 -- Laws of the calls on a journal: the workspace's test before, and its clearing after, what the crate conversions does.
 use Prim.Native.Nat.{ℕ}
 use mathlib.Core.Path.{◌≡◌, refl, sym, ap, ◌∙◌}
-use mathlib.Core.Bool.{true, false}
+use mathlib.Core.Bool.{Bool, true, false}
 use mathlib.Core.List.{List}
+use Rattle.std.specs.Prelude.{Result, Ok, Err}
 use lib.ListN.{length, replicate}
 use lib.Dec.{leb}
 use package.Rattle.rules.specs.Term.{Program}
@@ -12,10 +13,8 @@ use package.Rattle.calls.specs.Runs.{workspace_for, prepared}
 use package.Rattle.calls.specs.Conversions.{Turned, open_call, convert_call, rollback_call}
 use package.Rattle.calls.specs.Book.{after_open, after_turned}
 use package.Rattle.answers.specs.declared.Refusal.TheVariants.{Workspace}
-use package.Rattle.answers.specs.declared.CheckAnswer.{CheckAnswer}
-use package.Rattle.answers.specs.declared.CheckAnswer.TheVariants as checks
-use package.Rattle.answers.specs.declared.RunAnswer.{RunAnswer}
-use package.Rattle.answers.specs.declared.RunAnswer.TheVariants as runs
+use package.Rattle.answers.specs.declared.Done.{Done}
+use package.Rattle.answers.specs.declared.Refusal.{Refusal}
 use package.Rattle.answers.specs.Answers.{check_answer, run_answer, open_answer, held_answer}
 use package.Rattle.conversions.specs.Turns.{open_of, convert_of, rollback_of, OpenMeans, TurnMeans}
 use package.Rattle.engine.proofs.Beginning.{prepared-enough, prepared-short, cleared_later, cleared-held, cleared-opened}
@@ -47,7 +46,8 @@ module _ {A : Type 0} (then : Program → Answer A) (fuel : ℕ) (xs ws : List �
 -- Convert and rollback
 
 module _ (turn : Program → Answer Turned) (fuel : ℕ) (xs ws j : List ℕ) {x : Answer Turned} (whole : x ≡ (prepared xs fuel (length ws) >>= turn)) where
-  pub turn-enough : leb (workspace_for fuel) (length ws) ≡ true → {r : RunAnswer} {j' ws' : List ℕ} → TurnMeans r (load xs >>= turn) j j' → ws' ≡ replicate (length ws) 0
+  pub turn-enough : leb (workspace_for fuel) (length ws) ≡ true → {r : Result Done Refusal} {j' ws' : List ℕ} → TurnMeans r (load xs >>= turn) j j'
+      → ws' ≡ replicate (length ws) 0
       → (run_answer r ≡ held_answer x) × ((j' ≡ (after_turned j x).journal) × (ws' ≡ cleared x ws))
   turn-enough e {r} T w = (same, (T.journal ∙ ap (λ x. (after_turned j x).journal) (sym (whole_enough turn fuel xs ws whole e)), w ∙ sym clear))
     where
@@ -58,9 +58,19 @@ module _ (turn : Program → Answer Turned) (fuel : ℕ) (xs ws j : List ℕ) {x
       clear = sym (cleared-held x ws) ∙ ap (λ a. cleared a ws) (sym same) ∙ cleared_later ws T.later
 
   pub turn-short : leb (workspace_for fuel) (length ws) ≡ false
-      → (run_answer (runs.Refused Workspace) ≡ held_answer x) × ((j ≡ (after_turned j x).journal) × (ws ≡ cleared x ws))
+      → (run_answer (Err Workspace) ≡ held_answer x) × ((j ≡ (after_turned j x).journal) × (ws ≡ cleared x ws))
   unfolding after_turned cleared
   turn-short e = let s = sym (whole_short turn fuel xs ws whole e) in (ap held_answer s, (ap (λ x. (after_turned j x).journal) s, ap (λ x. cleared x ws) s))
+
+  -- by the workspace's length
+  pub turn-called : {r : Result Done Refusal} {j' ws' : List ℕ} → (leb (workspace_for fuel) (length ws) ≡ false → (r ≡ Err Workspace) × (j' ≡ j) × (ws' ≡ ws))
+      → (leb (workspace_for fuel) (length ws) ≡ true → TurnMeans r (load xs >>= turn) j j' × (ws' ≡ replicate (length ws) 0))
+      → (run_answer r ≡ held_answer x) × ((j' ≡ (after_turned j x).journal) × (ws' ≡ cleared x ws))
+  turn-called {r} {j'} {ws'} short served = go (leb (workspace_for fuel) (length ws)) refl
+    where
+      go : (b : Bool) → leb (workspace_for fuel) (length ws) ≡ b → (run_answer r ≡ held_answer x) × ((j' ≡ (after_turned j x).journal) × (ws' ≡ cleared x ws))
+      go true e = turn-enough e (served e).0 (served e).1
+      go false e = let s = short e in rw s.0 (rw s.1 (rw s.2 (turn-short e)))
 
 ----------------------------------------------------------------
 -- Open
@@ -72,7 +82,8 @@ module _ (bytes xs ws j : List ℕ) where
   whole_open : opened ≡ (prepared xs 0 (length ws) >>= λ P. open_of bytes (length j))
   whole_open = open_whole (length ws) xs bytes (length j)
 
-  pub open_enough : leb (workspace_for 0) (length ws) ≡ true → {r : CheckAnswer} {j' ws' : List ℕ} → OpenMeans r (load xs >>= λ P. open_of bytes (length j)) j j' → ws' ≡ replicate (length ws) 0
+  pub open_enough : leb (workspace_for 0) (length ws) ≡ true → {r : Result (Unit {0}) Refusal} {j' ws' : List ℕ}
+      → OpenMeans r (load xs >>= λ P. open_of bytes (length j)) j j' → ws' ≡ replicate (length ws) 0
       → (check_answer r ≡ open_answer opened) × ((j' ≡ (after_open j opened).journal) × (ws' ≡ cleared opened ws))
   open_enough e {r} O w = (same, (O.journal ∙ ap (λ x. (after_open j x).journal) (sym (whole_enough (λ P. open_of bytes (length j)) 0 xs ws whole_open e)), w ∙ sym clear))
     where
@@ -83,6 +94,17 @@ module _ (bytes xs ws j : List ℕ) where
       clear = sym (cleared-opened opened ws) ∙ ap (λ a. cleared a ws) (sym same) ∙ cleared_later ws O.later
 
   pub open_short : leb (workspace_for 0) (length ws) ≡ false
-      → (check_answer (checks.Refused Workspace) ≡ open_answer opened) × ((j ≡ (after_open j opened).journal) × (ws ≡ cleared opened ws))
+      → (check_answer (Err Workspace) ≡ open_answer opened) × ((j ≡ (after_open j opened).journal) × (ws ≡ cleared opened ws))
   unfolding after_open cleared
   open_short e = let s = sym (whole_short (λ P. open_of bytes (length j)) 0 xs ws whole_open e) in (ap open_answer s, (ap (λ x. (after_open j x).journal) s, ap (λ x. cleared x ws) s))
+
+  -- by the workspace's length
+  pub open_called : {r : Result (Unit {0}) Refusal} {j' ws' : List ℕ} → (leb (workspace_for 0) (length ws) ≡ false → (r ≡ Err Workspace) × (j' ≡ j) × (ws' ≡ ws))
+      → (leb (workspace_for 0) (length ws) ≡ true → OpenMeans r (load xs >>= λ P. open_of bytes (length j)) j j' × (ws' ≡ replicate (length ws) 0))
+      → (check_answer r ≡ open_answer opened) × ((j' ≡ (after_open j opened).journal) × (ws' ≡ cleared opened ws))
+  open_called {r} {j'} {ws'} short served = go (leb (workspace_for 0) (length ws)) refl
+    where
+      go : (b : Bool) → leb (workspace_for 0) (length ws) ≡ b
+          → (check_answer r ≡ open_answer opened) × ((j' ≡ (after_open j opened).journal) × (ws' ≡ cleared opened ws))
+      go true e = open_enough e (served e).0 (served e).1
+      go false e = let s = short e in rw s.0 (rw s.1 (rw s.2 (open_short e)))

@@ -6,7 +6,9 @@ ghost use Rattle.calls.specs.Conversions.{open_call, convert_call, rollback_call
 ghost use Rattle.calls.specs.Book.{after_open, after_turned};
 ghost use Rattle.answers.specs.Answers.{check_answer, run_answer, open_answer, held_answer};
 
-use answers::{CheckAnswer, Refusal, RunAnswer};
+use crate::serving;
+use answers::{CheckAnswer, RunAnswer};
+use conversions::programs;
 
 // Opens a journal with a record: whatever the buffer holds, it says the record and no conversion afterwards.
 pub fn open(program: &[u8], record: &[u8], workspace: &mut [u8], journal: &mut [u8]) -> CheckAnswer
@@ -14,12 +16,9 @@ pub fn open(program: &[u8], record: &[u8], workspace: &mut [u8], journal: &mut [
     ensures keeps { journal.new ≡ (after_open journal.old (open_call program.now «record».now (length workspace.old) (length journal.old))).journal }
     ensures clear { workspace.new ≡ cleared (open_call program.now «record».now (length workspace.old) (length journal.old)) workspace.old }
 {
-    if requests::preparing::enough(workspace.len(), 0) {
-        let answer = conversions::programs::open(program, record, workspace, journal);
-        octets::clear(workspace);
-        return answer;
-    }
-    CheckAnswer::Refused(Refusal::Workspace)
+    serving::serve(workspace, 0, journal, |workspace, journal| {
+        programs::open(program, record, workspace, journal)
+    })
 }
 
 // Runs a function forward on the held record, and adds the conversion: the answer is the new record's length and the steps.
@@ -35,14 +34,9 @@ pub fn convert(
     ensures keeps { journal.new ≡ (after_turned journal.old (convert_call program.now function ancillae.now fuel (length workspace.old) journal.old)).journal }
     ensures clear { workspace.new ≡ cleared (convert_call program.now function ancillae.now fuel (length workspace.old) journal.old) workspace.old }
 {
-    if requests::preparing::enough(workspace.len(), fuel) {
-        let answer = conversions::programs::convert(
-            program, function, ancillae, fuel, workspace, journal,
-        );
-        octets::clear(workspace);
-        return answer;
-    }
-    RunAnswer::Refused(Refusal::Workspace)
+    serving::serve(workspace, fuel, journal, |workspace, journal| {
+        programs::convert(program, function, ancillae, fuel, workspace, journal)
+    })
 }
 
 // Runs the newest conversion backward on the held record, and strikes it: no earlier record is stored.
@@ -51,10 +45,7 @@ pub fn rollback(program: &[u8], fuel: u16, workspace: &mut [u8], journal: &mut [
     ensures keeps { journal.new ≡ (after_turned journal.old (rollback_call program.now fuel (length workspace.old) journal.old)).journal }
     ensures clear { workspace.new ≡ cleared (rollback_call program.now fuel (length workspace.old) journal.old) workspace.old }
 {
-    if requests::preparing::enough(workspace.len(), fuel) {
-        let answer = conversions::programs::rollback(program, fuel, workspace, journal);
-        octets::clear(workspace);
-        return answer;
-    }
-    RunAnswer::Refused(Refusal::Workspace)
+    serving::serve(workspace, fuel, journal, |workspace, journal| {
+        programs::rollback(program, fuel, workspace, journal)
+    })
 }

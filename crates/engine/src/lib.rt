@@ -5,6 +5,8 @@
 pub mod checking;
 pub mod keeping;
 pub mod running;
+// what four of the calls share: the workspace's test before, its clearing after
+mod serving;
 
 pub use checking::check;
 pub use keeping::{convert, open, rollback};

@@ -1,9 +1,10 @@
 -- The figures of one type entry, by its kind, as the code finds them.
-use Prim.Native.Nat.{ℕ, suc, ◌+◌, ◌≤◌, ◌<◌, pred, min, max}
+use Prim.Native.Nat.{ℕ, zero, suc, ◌+◌, ◌-◌, ◌≤◌, ◌<◌, pred, min, max}
 use native.Mathlib.Omega.{arith}
 use native.Mathlib.Decide.{dec_lt}
-use mathlib.Core.Path.{◌≡◌, sym, ap, ap₂, ◌∙◌}
+use mathlib.Core.Path.{◌≡◌, refl, sym, ap, ap₂, ◌∙◌}
 use mathlib.Core.Bool.{true}
+use mathlib.Core.Logic.{◌⊎◌, inl, inr}
 use mathlib.Core.List.{List, [], ◌∷◌}
 use lib.ListN.{length, get_or}
 use package.Rattle.rules.proofs.Basics.{given}
@@ -13,8 +14,21 @@ use package.Rattle.calls.specs.Named.{types_of_type, below}
 use package.Rattle.calls.specs.Figures.{ceiling, nodes_of, free_of}
 use package.Rattle.calls.proofs.Entries.{below-head}
 use package.Rattle.program.specs.Parts.{TypeField, variable, first, second}
+use package.Rattle.program.specs.KindNumbers.{type_kind_number}
+use package.Rattle.program.specs.declared.kinds.TypeKind.{TypeKind}
+use package.Rattle.program.specs.declared.kinds.TypeKind.TheVariants.{Product, Sum}
 use package.Rattle.program.proofs.Shapes.{type-unit, type-prod, type-sum, type-mu, type-var}
 use package.Rattle.program.proofs.Rooms.{type-kind, prod-room, sum_room, tyvar-room}
+
+-- the numbers of products and sums
+pub pair-number : {kind : TypeKind} {n : ℕ} → type_kind_number kind ≡ n → (kind ≡ Product) ⊎ (kind ≡ Sum) → (1 ≤ n) × (n < 3)
+pair-number e (inl p) = let h = ap type_kind_number p in (omega arith, omega arith)
+pair-number e (inr p) = let h = ap type_kind_number p in (omega arith, omega arith)
+
+-- one binder fewer, where there is one
+pub one_fewer : (n : ℕ) → n - 1 ≡ pred n
+one_fewer zero = refl
+one_fewer (suc n) = omega arith
 
 -- products and sums alike
 two_kinds : {C : Type 0} (k : ℕ) → 1 ≤ k → k < 3 → (k ≡ 1 → C) → (k ≡ 2 → C) → C

@@ -5,6 +5,7 @@ use mathlib.Core.Path.{◌≡◌, refl, sym, ap, ap₂, subst, ◌∙◌}
 use mathlib.Core.Bool.{Bool, true, false, ◌&&◌}
 use mathlib.Core.List.{List, [], ◌∷◌, ◌++◌, map}
 use lib.ListN.{length, get_or, drop, length-map, drop_of_length-le}
+use Rattle.std.specs.Prelude.{Ok, Err}
 use package.Rattle.rules.proofs.Basics.{and_both}
 use package.Rattle.calls.specs.Answer.{Answer, accepted, ◌>>=◌, require}
 use package.Rattle.calls.specs.Fields.{parameters_at}
@@ -14,7 +15,7 @@ use package.Rattle.program.specs.Places.{places_of}
 use package.Rattle.program.specs.Parts.{FunctionField}
 use package.Rattle.entries.specs.Marks.{Used, Measured, all_plain_in}
 use package.Rattle.entries.specs.Tested.{entries_of, function_answer, EntryTested}
-use package.Rattle.entries.specs.declared.testing.Verdict.TheVariants.{Sound, BadReference, BadType}
+use package.Rattle.entries.specs.declared.testing.EntryError.TheVariants.{BadReference, BadType}
 use package.Rattle.program.proofs.Lists.{types-of-function, body-of-function}
 use package.Rattle.entries.proofs.Turns.{below-append}
 use package.Rattle.entries.proofs.Types.{entries_from}
@@ -64,24 +65,24 @@ module _ (types terms at : ℕ) (nodes free : List ℕ) (h : FunctionEntry) wher
   answered used = function_answer types terms at used nodes free h
 
   module _ (us : List ℕ) where
-    pub type-absent : below types (types_of_function h) ≡ false → EntryTested answered (h.body ∷ []) us us (BadReference at)
+    pub type-absent : below types (types_of_function h) ≡ false → EntryTested answered (h.body ∷ []) us us (Err (BadReference at))
     unfolding function_answer ◌>>=◌ require
     type-absent a = bad_reference answered (h.body ∷ []) us us at λ used M. rw a refl
 
-    pub body-absent : below types (types_of_function h) ≡ true → below terms (h.body ∷ []) ≡ false → EntryTested answered (h.body ∷ []) us us (BadReference at)
+    pub body-absent : below types (types_of_function h) ≡ true → below terms (h.body ∷ []) ≡ false → EntryTested answered (h.body ∷ []) us us (Err (BadReference at))
     unfolding function_answer ◌>>=◌ require
     body-absent a b = bad_reference answered (h.body ∷ []) us us at λ used M. rw (a, b) refl
 
   module _ (us us' : List ℕ) (a : below types (types_of_function h) ≡ true) (b : below terms (h.body ∷ []) ≡ true) where
-    pub used-before : Used us us' (h.body ∷ []) false → EntryTested answered (h.body ∷ []) us us' (BadReference at)
+    pub used-before : Used us us' (h.body ∷ []) false → EntryTested answered (h.body ∷ []) us us' (Err (BadReference at))
     unfolding function_answer ◌>>=◌ require
     used-before U = bad_reference answered (h.body ∷ []) us us' at λ used M. rw (a, b, sym (U.answer used M)) refl
 
-    pub type_not_plain : Used us us' (h.body ∷ []) true → all_plain_in nodes free (types_of_function h) ≡ false → EntryTested answered (h.body ∷ []) us us' (BadType at)
+    pub type_not_plain : Used us us' (h.body ∷ []) true → all_plain_in nodes free (types_of_function h) ≡ false → EntryTested answered (h.body ∷ []) us us' (Err (BadType at))
     unfolding function_answer ◌>>=◌ require
     type_not_plain U d = bad-type answered (h.body ∷ []) us us' at λ used M. rw (a, b, sym (U.answer used M), d) refl
 
-    pub function-sound : Used us us' (h.body ∷ []) true → all_plain_in nodes free (types_of_function h) ≡ true → EntryTested answered (h.body ∷ []) us us' Sound
+    pub function-sound : Used us us' (h.body ∷ []) true → all_plain_in nodes free (types_of_function h) ≡ true → EntryTested answered (h.body ∷ []) us us' (Ok tt)
     unfolding function_answer ◌>>=◌ require
     function-sound U d = sound answered (h.body ∷ []) us us' (λ used M. rw (a, b, sym (U.answer used M), d) refl) λ used M. U.marks used M refl
 

@@ -5,6 +5,7 @@ use mathlib.Core.Path.{◌≡◌, refl, sym, ap, ap₂, subst, ◌∙◌}
 use mathlib.Core.Bool.{Bool, true, false, ◌&&◌}
 use mathlib.Core.List.{List, ◌++◌, map}
 use lib.ListN.{length, get_or, drop, length-map, drop_of_length-le}
+use Rattle.std.specs.Prelude.{Ok, Err}
 use package.Rattle.rules.proofs.Basics.{and_both}
 use package.Rattle.calls.specs.Answer.{Answer, accepted, ◌>>=◌, require}
 use package.Rattle.calls.specs.Entries.{type_at, TermEntry, term_at, function_at, references, entries_at}
@@ -14,7 +15,7 @@ use package.Rattle.program.specs.Parts.{TermField}
 use package.Rattle.program.specs.Lists.{types_in_term, functions_in_term, terms_from, terms_in_term}
 use package.Rattle.entries.specs.Marks.{Used, Measured, all_plain_in}
 use package.Rattle.entries.specs.Tested.{entries_of, term_answer, EntryTested}
-use package.Rattle.entries.specs.declared.testing.Verdict.TheVariants.{Sound, BadReference, BadType}
+use package.Rattle.entries.specs.declared.testing.EntryError.TheVariants.{BadReference, BadType}
 use package.Rattle.entries.proofs.Verdicts.{bad_reference, bad-type, sound, by_figures}
 use package.Rattle.entries.proofs.Types.{entries_from}
 use package.Rattle.program.proofs.Lists.{types-of-term, functions-of-term, terms-of-term}
@@ -53,29 +54,29 @@ module _ (types functions k at : ℕ) (nodes free : List ℕ) (t : TermEntry) wh
   answered used = term_answer types functions k at used nodes free t
 
   module _ (us : List ℕ) where
-    pub type-absent : below types (types_of_term t) ≡ false → EntryTested answered (terms_of_term t) us us (BadReference at)
+    pub type-absent : below types (types_of_term t) ≡ false → EntryTested answered (terms_of_term t) us us (Err (BadReference at))
     unfolding term_answer ◌>>=◌ require
     type-absent a = bad_reference answered (terms_of_term t) us us at λ used M. rw a refl
 
-    pub term_not_lower : below types (types_of_term t) ≡ true → below k (terms_of_term t) ≡ false → EntryTested answered (terms_of_term t) us us (BadReference at)
+    pub term_not_lower : below types (types_of_term t) ≡ true → below k (terms_of_term t) ≡ false → EntryTested answered (terms_of_term t) us us (Err (BadReference at))
     unfolding term_answer ◌>>=◌ require
     term_not_lower a b = bad_reference answered (terms_of_term t) us us at λ used M. rw (a, b) refl
 
     pub function-absent : below types (types_of_term t) ≡ true → below k (terms_of_term t) ≡ true → below functions (functions_of_term t) ≡ false
-        → EntryTested answered (terms_of_term t) us us (BadReference at)
+        → EntryTested answered (terms_of_term t) us us (Err (BadReference at))
     unfolding term_answer ◌>>=◌ require
     function-absent a b c = bad_reference answered (terms_of_term t) us us at λ used M. rw (a, b, c) refl
 
   module _ (us us' : List ℕ) (a : below types (types_of_term t) ≡ true) (b : below k (terms_of_term t) ≡ true) (c : below functions (functions_of_term t) ≡ true) where
-    pub used-before : Used us us' (terms_of_term t) false → EntryTested answered (terms_of_term t) us us' (BadReference at)
+    pub used-before : Used us us' (terms_of_term t) false → EntryTested answered (terms_of_term t) us us' (Err (BadReference at))
     unfolding term_answer ◌>>=◌ require
     used-before U = bad_reference answered (terms_of_term t) us us' at λ used M. rw (a, b, c, sym (U.answer used M)) refl
 
-    pub type_not_plain : Used us us' (terms_of_term t) true → all_plain_in nodes free (types_of_term t) ≡ false → EntryTested answered (terms_of_term t) us us' (BadType at)
+    pub type_not_plain : Used us us' (terms_of_term t) true → all_plain_in nodes free (types_of_term t) ≡ false → EntryTested answered (terms_of_term t) us us' (Err (BadType at))
     unfolding term_answer ◌>>=◌ require
     type_not_plain U d = bad-type answered (terms_of_term t) us us' at λ used M. rw (a, b, c, sym (U.answer used M), d) refl
 
-    pub term-sound : Used us us' (terms_of_term t) true → all_plain_in nodes free (types_of_term t) ≡ true → EntryTested answered (terms_of_term t) us us' Sound
+    pub term-sound : Used us us' (terms_of_term t) true → all_plain_in nodes free (types_of_term t) ≡ true → EntryTested answered (terms_of_term t) us us' (Ok tt)
     unfolding term_answer ◌>>=◌ require
     term-sound U d = sound answered (terms_of_term t) us us' (λ used M. rw (a, b, c, sym (U.answer used M), d) refl) λ used M. U.marks used M refl
 

@@ -7,6 +7,7 @@ use mathlib.Core.Bool.{Bool, true, false}
 use mathlib.Core.List.{List, [], ◌∷◌, ◌++◌, map}
 use lib.ListN.{length, get_or, set, take, drop, length-map, get_or-map, drop_of_length-le}
 use lib.Seq.{take-suc, take-suc-set, take_all, drop-cons, get_or-take}
+use Rattle.std.specs.Prelude.{Ok, Err}
 use package.Rattle.rules.proofs.Basics.{given}
 use package.Rattle.calls.specs.Answer.{accepted, refused, ◌>>=◌, require}
 use package.Rattle.calls.specs.Entries.{TypeEntry, y_unit, y_prod, y_sum, y_mu, y_var, type_at, references}
@@ -20,7 +21,7 @@ use package.Rattle.program.specs.Lists.{types_in_type}
 use package.Rattle.entries.specs.Tally.{no_counts, CountMade}
 use package.Rattle.entries.specs.Tested.{TypesTested}
 use package.Rattle.entries.specs.declared.measures.Tally.{Tally}
-use package.Rattle.entries.specs.declared.testing.Verdict.TheVariants.{Sound, BadReference}
+use package.Rattle.entries.specs.declared.testing.EntryError.TheVariants.{BadReference}
 use package.Rattle.program.proofs.Lists.{types-of-type}
 use package.Rattle.entries.proofs.Tallies.{CountsSo, counts_start, counts-more, counts-tallied}
 
@@ -137,7 +138,7 @@ module _ (xs types : List ℕ) where
     }
 
     pub types_stop : (r : Bool) → r ≡ below i (types_of_type (type_at xs at)) → r ≡ false
-        → TypesTested xs types nodes free (record { verdict = BadReference at; tally = t })
+        → TypesTested xs types nodes free (record { verdict = Err (BadReference at); tally = t })
     unfolding ◌>>=◌ require
     types_stop r a q = record {
       answer = λ terms functions.
@@ -150,7 +151,7 @@ module _ (xs types : List ℕ) where
     }
 
   pub types-end : (i : ℕ) (nodes free : List ℕ) (t : Tally) → i ≤ length types → length types ≤ i → length types ≤ length nodes → length types ≤ length free
-      → TypesSo xs types i nodes free t → TypesTested xs types nodes free (record { verdict = Sound; tally = t })
+      → TypesSo xs types i nodes free t → TypesTested xs types nodes free (record { verdict = Ok tt; tally = t })
   unfolding test_types
   types-end i nodes free t l l' ln lf S = record {
     answer = λ terms functions. sym (passed terms functions);

@@ -5,13 +5,14 @@ use mathlib.Core.Path.{◌≡◌, refl, sym, ap, ◌∙◌}
 use mathlib.Core.List.{List, map}
 use lib.ListN.{length, get_or, drop, length-map, drop_of_length-le}
 use borrow.Author.Tests.{lt-ltb, le-ltb}
+use Rattle.std.specs.Prelude.{Ok, Err}
 use package.Rattle.calls.specs.Answer.{Answer, refused, ◌>>=◌, require}
 use package.Rattle.calls.specs.Entries.{term_at}
 use package.Rattle.calls.specs.Named.{member, test_used}
 use package.Rattle.program.specs.Places.{places_of}
 use package.Rattle.entries.specs.Marks.{Marks}
 use package.Rattle.entries.specs.Tested.{entries_of, UsedTested}
-use package.Rattle.entries.specs.declared.testing.Verdict.TheVariants.{Sound, BadReference}
+use package.Rattle.entries.specs.declared.testing.EntryError.TheVariants.{BadReference}
 use package.Rattle.entries.proofs.Types.{entries_from}
 
 -- what the tests from entry `k` on answer
@@ -47,7 +48,7 @@ module _ (terms us : List ℕ) where
         some : (n : ℕ) → (n ≡ 0 → ⊥) → 0 < n
         some n d = omega arith
 
-    pub used_stop : (at : ℕ) → at ≡ get_or terms k 0 → get_or us k 0 ≡ 0 → UsedTested terms us (BadReference at)
+    pub used_stop : (at : ℕ) → at ≡ get_or terms k 0 → get_or us k 0 ≡ 0 → UsedTested terms us (Err (BadReference at))
     unfolding ◌>>=◌ require
     used_stop at e z = record {
       answer = λ xs types functions used M.
@@ -56,7 +57,7 @@ module _ (terms us : List ℕ) where
           ∙ ap (λ b. require b 4 (get_or terms k 0) >>= λ p. used_from xs types terms functions used (k + 1)) (M.marked k l' ∙ le-ltb 0 (get_or us k 0) (omega arith)));
     }
 
-  pub used-end : (k : ℕ) → length terms ≤ k → UsedSo terms us k → UsedTested terms us Sound
+  pub used-end : (k : ℕ) → length terms ≤ k → UsedSo terms us k → UsedTested terms us (Ok tt)
   unfolding test_used
   used-end k l S = record {
     answer = λ xs types functions used M.

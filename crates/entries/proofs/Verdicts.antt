@@ -7,6 +7,7 @@ use mathlib.Core.List.{List, [], ◌∷◌, ◌++◌, map}
 use lib.ListN.{length, get_or, length-map}
 use lib.Seq.{get_or-take}
 use lib.Dec.{eqb, leb}
+use Rattle.std.specs.Prelude.{Result, Ok, Err}
 use package.Rattle.rules.specs.Limits.{max_nodes}
 use package.Rattle.rules.proofs.Basics.{given}
 use package.Rattle.calls.specs.Answer.{Answer, accepted, refused, ◌>>=◌, require}
@@ -16,21 +17,21 @@ use package.Rattle.calls.proofs.Entries.{below-head, plain-figures}
 use package.Rattle.calls.proofs.Answer.{refused≢accepted}
 use package.Rattle.entries.specs.Marks.{Marks, Measured, plain_in, all_plain_in}
 use package.Rattle.entries.specs.Tested.{verdict_of, EntryTested, Ends}
-use package.Rattle.entries.specs.declared.testing.Verdict.{Verdict}
-use package.Rattle.entries.specs.declared.testing.Verdict.TheVariants.{Sound, BadReference, BadType}
+use package.Rattle.entries.specs.declared.testing.EntryError.{EntryError}
+use package.Rattle.entries.specs.declared.testing.EntryError.TheVariants.{BadReference, BadType}
 
 ----------------------------------------------------------------
 -- One entry
 
 module _ (answered : List ℕ → Answer (Unit {0})) (ts us us' : List ℕ) where
-  pub bad_reference : (at : ℕ) → ((used : List ℕ) → Marks us used → refused 4 at ≡ answered used) → EntryTested answered ts us us' (BadReference at)
+  pub bad_reference : (at : ℕ) → ((used : List ℕ) → Marks us used → refused 4 at ≡ answered used) → EntryTested answered ts us us' (Err (BadReference at))
   bad_reference at a = record { answer = a; marks = λ used M e. absurd (refused≢accepted e) }
 
-  pub bad-type : (at : ℕ) → ((used : List ℕ) → Marks us used → refused 5 at ≡ answered used) → EntryTested answered ts us us' (BadType at)
+  pub bad-type : (at : ℕ) → ((used : List ℕ) → Marks us used → refused 5 at ≡ answered used) → EntryTested answered ts us us' (Err (BadType at))
   bad-type at a = record { answer = a; marks = λ used M e. absurd (refused≢accepted e) }
 
   pub sound : ((used : List ℕ) → Marks us used → accepted tt ≡ answered used) → ((used : List ℕ) → Marks us used → Marks us' (ts ++ used))
-      → EntryTested answered ts us us' Sound
+      → EntryTested answered ts us us' (Ok tt)
   sound a m = record { answer = a; marks = λ used M e. m used M }
 
 ----------------------------------------------------------------
@@ -45,9 +46,9 @@ pub going_start : (whole : List ℕ → Answer (List ℕ)) (us : List ℕ) → G
 going_start whole us = record { going = λ used M. (used, refl, M) }
 
 module _ (whole rest next : List ℕ → Answer (List ℕ)) (answered : List ℕ → Answer (Unit {0})) (ts us₀ us us' : List ℕ)
-    (step : (used : List ℕ) → rest used ≡ (answered used >>= λ passed. next (ts ++ used))) (G : Going whole rest us₀ us) (r : Verdict)
+    (step : (used : List ℕ) → rest used ≡ (answered used >>= λ passed. next (ts ++ used))) (G : Going whole rest us₀ us) (r : Result (Unit {0}) EntryError)
     (T : EntryTested answered ts us us' r) where
-  pub going_more : r ≡ Sound → Going whole next us₀ us'
+  pub going_more : r ≡ Ok tt → Going whole next us₀ us'
   unfolding ◌>>=◌
   going_more e = record {
     going = λ used₀ M₀.
@@ -61,14 +62,12 @@ module _ (whole rest next : List ℕ → Answer (List ℕ)) (answered : List ℕ
   stops n at e used₀ M₀ =
       given (G.going used₀ M₀) λ (used, w, M). w ∙ step used ∙ ap (λ a. a >>= λ p. next (ts ++ used)) (sym (T.answer used M) ∙ e)
 
-  pub going-bad_reference : (at : ℕ) → r ≡ BadReference at → (used : List ℕ) → Marks us₀ used → Ends (BadReference at) us' (whole used)
-  going-bad_reference at e = stops 4 at (ap verdict_of e)
-
-  pub going-bad-type : (at : ℕ) → r ≡ BadType at → (used : List ℕ) → Marks us₀ used → Ends (BadType at) us' (whole used)
-  going-bad-type at e = stops 5 at (ap verdict_of e)
+  pub going_stops : (e : EntryError) → r ≡ Err e → (used : List ℕ) → Marks us₀ used → Ends (Err e) us' (whole used)
+  going_stops (BadReference at) q = stops 4 at (ap verdict_of q)
+  going_stops (BadType at) q = stops 5 at (ap verdict_of q)
 
 pub going_end : (whole rest : List ℕ → Answer (List ℕ)) (us us' : List ℕ) → ((used : List ℕ) → rest used ≡ accepted used) → Going whole rest us us'
-    → (used : List ℕ) → Marks us used → Ends Sound us' (whole used)
+    → (used : List ℕ) → Marks us used → Ends (Ok tt) us' (whole used)
 going_end whole rest us us' end G used₀ M₀ = given (G.going used₀ M₀) λ (used, w, M). (used, w ∙ end used, M)
 
 ----------------------------------------------------------------

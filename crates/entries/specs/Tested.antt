@@ -1,22 +1,21 @@
 -- What the tests on entries answer in code, against calls/specs/Named: of one entry, of the entries of a tag, and of all.
-use Rattle.std.specs.Prelude.{ℕ, ◌≤◌, ◌≡◌, ◌&&◌, List, [], ◌∷◌, ◌++◌, map, length, take}
+use Rattle.std.specs.Prelude.{ℕ, ◌≡◌, ◌&&◌, List, [], ◌∷◌, ◌++◌, map, length, take, Result, Ok, Err}
 use package.Rattle.calls.specs.Answer.{Answer, accepted, refused, ◌>>=◌, require}
 use package.Rattle.calls.specs.Entries.{type_at, TermEntry, term_at, FunctionEntry, function_at, Entries, entries_at}
 use package.Rattle.calls.specs.Named.{types_of_term, terms_of_term, functions_of_term, types_of_function, below, fresh, test_types, test_terms, test_functions, test_used, test_entries}
 use package.Rattle.calls.specs.Figures.{nodes_of, figures}
-use package.Rattle.entries.specs.declared.testing.Verdict.{Verdict}
-use package.Rattle.entries.specs.declared.testing.Verdict.TheVariants.{Sound, BadReference, BadType}
+use package.Rattle.entries.specs.declared.testing.EntryError.{EntryError}
+use package.Rattle.entries.specs.declared.testing.EntryError.TheVariants.{BadReference, BadType}
 use package.Rattle.entries.specs.declared.testing.Tested.{Tested}
 use package.Rattle.program.specs.Places.{places_of}
-use package.Rattle.program.specs.Parts.{Formed}
 use package.Rattle.entries.specs.Marks.{Marks, Measured, all_plain_in}
 use package.Rattle.entries.specs.Tally.{Tallied, NamedCounted}
 
 -- the answer in the definitions' terms
-abbrev pub verdict_of : Verdict → Answer (Unit {0})
-verdict_of Sound = accepted tt
-verdict_of (BadReference at) = refused 4 at
-verdict_of (BadType at) = refused 5 at
+abbrev pub verdict_of : Result (Unit {0}) EntryError → Answer (Unit {0})
+verdict_of (Ok u) = accepted tt
+verdict_of (Err (BadReference at)) = refused 4 at
+verdict_of (Err (BadType at)) = refused 5 at
 
 -- the entries of the program `xs` with its fields at these offsets
 abbrev pub entries_of : List ℕ → List ℕ → List ℕ → List ℕ → Entries
@@ -46,18 +45,12 @@ function_answer types terms at used nodes free h = do
   require (all_plain_in nodes free (types_of_function h)) 5 at
 
 -- An entry is tested that names the terms `ts`; if it is sound, they are used now. `us` is noted before, `us'` after.
-pub record EntryTested (answered : List ℕ → Answer (Unit {0})) (ts us us' : List ℕ) (r : Verdict) : Type 0 where
+pub record EntryTested (answered : List ℕ → Answer (Unit {0})) (ts us us' : List ℕ) (r : Result (Unit {0}) EntryError) : Type 0 where
   pub answer : (used : List ℕ) → Marks us used → verdict_of r ≡ answered used
   pub marks : (used : List ℕ) → Marks us used → verdict_of r ≡ accepted tt → Marks us' (ts ++ used)
 
 ----------------------------------------------------------------
 -- All entries of a tag
-
--- what is there to test terms and functions
-pub record Ready (xs types terms functions nodes free us : List ℕ) : Type 0 where
-  pub formed : Formed xs (places_of types terms functions)
-  pub measured : Measured (map (type_at xs) types) nodes free
-  pub room : length terms ≤ length us
 
 -- the definitions' answers, `used` being the terms used so far
 abbrev pub terms_answer : List ℕ → List ℕ → List ℕ → List ℕ → List ℕ → Answer (List ℕ)
@@ -68,15 +61,15 @@ functions_answer xs types terms functions used =
     test_functions (places_of types terms functions) (entries_of xs types terms functions) 0 used (map (function_at xs) functions)
 
 -- whether every term is used
-pub record UsedTested (terms us : List ℕ) (r : Verdict) : Type 0 where
+pub record UsedTested (terms us : List ℕ) (r : Result (Unit {0}) EntryError) : Type 0 where
   pub answer : (xs types functions used : List ℕ) → Marks us used
       → verdict_of r ≡ test_used (places_of types terms functions) (entries_of xs types terms functions) 0 used (map (term_at xs) terms)
 
 -- The tests end with the terms that are used, as noted in `us`, or with a refusal.
-abbrev pub Ends : Verdict → List ℕ → Answer (List ℕ) → Type 0
-Ends Sound us a = (used : List ℕ) × (a ≡ accepted used) × Marks us used
-Ends (BadReference at) us a = a ≡ refused 4 at
-Ends (BadType at) us a = a ≡ refused 5 at
+abbrev pub Ends : Result (Unit {0}) EntryError → List ℕ → Answer (List ℕ) → Type 0
+Ends (Ok u) us a = (used : List ℕ) × (a ≡ accepted used) × Marks us used
+Ends (Err (BadReference at)) us a = a ≡ refused 4 at
+Ends (Err (BadType at)) us a = a ≡ refused 5 at
 
 ----------------------------------------------------------------
 -- All entries

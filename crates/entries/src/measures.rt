@@ -9,7 +9,8 @@ ghost use Rattle.calls.specs.Figures.{ceiling, nodes_of, free_of};
 ghost use Rattle.program.specs.Parts.{TypeField};
 ghost use Rattle.entries.specs.Tally.{TallyOf, Uncounted, CountMade};
 
-use program::{kinds, views};
+use program::kinds::TypeKind;
+use program::views;
 use rules::MAX_NODES;
 
 // One above the limit on nodes, as wide as a count and as a sum of counts.
@@ -21,20 +22,11 @@ const WIDE_CEILING: u32 = CEILING as u32;
 fn joined(a: u16, b: u16) -> u16
     ensures { result ≡ min ceiling (suc (a + b)) }
 {
-    let n = octets::wide32(a) + octets::wide32(b) + 1;
+    let n = u32::from(a) + u32::from(b) + 1;
     if n < WIDE_CEILING {
         return n as u16;
     }
     CEILING
-}
-
-fn greater(a: u16, b: u16) -> u16
-    ensures { result ≡ max a b }
-{
-    if a < b {
-        return b;
-    }
-    a
 }
 
 // The nodes of the type at `at`, from those of the types that it names.
@@ -43,26 +35,23 @@ fn nodes_of(p: &[u8], at: usize, nodes: &[u16]) -> u16
     requires at_value { below (length nodes.now) (types_of_type (type_at p.now at)) ≡ true }
     ensures { result ≡ nodes_of nodes.now (type_at p.now at) }
 {
-    let kind = views::kind(p, at);
-    match kind {
-        kinds::UNIT_TYPE => 1,
-        kinds::PRODUCT | kinds::SUM => {
-            let a = octets::wide_index(views::first(p, at));
-            let b = octets::wide_index(views::second(p, at));
+    match views::type_kind(p, at) {
+        TypeKind::Unit => 1,
+        TypeKind::Product | TypeKind::Sum => {
+            let a = usize::from(views::first(p, at));
+            let b = usize::from(views::second(p, at));
             joined(nodes[a], nodes[b])
         }
-        kinds::RECURSIVE => {
-            let a = octets::wide_index(views::first(p, at));
+        TypeKind::Recursive => {
+            let a = usize::from(views::first(p, at));
             joined(nodes[a], 0)
         }
-        kinds::TYPE_VARIABLE => 1,
-        // never met: there is no other kind
-        _ => 0,
+        TypeKind::Variable => 1,
     }
 }
 
 // How many counts of nodes a check has made so far.
-#[derive(Clone, Copy)]
+#[derive(Clone, Copy, PartialEq, Eq, Debug)]
 pub struct Tally {
     pub counted: u16,
 }
@@ -98,21 +87,18 @@ fn free_of(p: &[u8], at: usize, free: &[u16]) -> u16
     requires at_value { below (length free.now) (types_of_type (type_at p.now at)) ≡ true }
     ensures { result ≡ free_of free.now (type_at p.now at) }
 {
-    let kind = views::kind(p, at);
-    match kind {
-        kinds::UNIT_TYPE => 0,
-        kinds::PRODUCT | kinds::SUM => {
-            let a = octets::wide_index(views::first(p, at));
-            let b = octets::wide_index(views::second(p, at));
-            greater(free[a], free[b])
+    match views::type_kind(p, at) {
+        TypeKind::Unit => 0,
+        TypeKind::Product | TypeKind::Sum => {
+            let a = usize::from(views::first(p, at));
+            let b = usize::from(views::second(p, at));
+            free[a].max(free[b])
         }
-        kinds::RECURSIVE => {
-            let a = octets::wide_index(views::first(p, at));
-            outside(free[a])
+        TypeKind::Recursive => {
+            let a = usize::from(views::first(p, at));
+            free[a].saturating_sub(1)
         }
-        kinds::TYPE_VARIABLE => octets::wide16(views::variable(p, at)) + 1,
-        // never met: there is no other kind
-        _ => 0,
+        TypeKind::Variable => u16::from(views::variable(p, at)) + 1,
     }
 }
 
@@ -125,14 +111,4 @@ pub fn note_free(p: &[u8], i: usize, at: usize, free: &mut [u16])
 {
     let f = free_of(p, at, free);
     free[i] = f;
-}
-
-// One recursive type fewer.
-fn outside(n: u16) -> u16
-    ensures { result ≡ pred n }
-{
-    if n == 0 {
-        return 0;
-    }
-    n - 1
 }

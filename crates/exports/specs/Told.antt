@@ -1,7 +1,9 @@
 -- Answers as four numbers: the refusal's number, or 0 where the call is accepted; its place; the length of a value or of bytes written; the
 -- steps, or how many conversions stand.
-use Rattle.std.specs.Prelude.{ℕ, List, [], ◌∷◌}
+use Rattle.std.specs.Prelude.{ℕ, List, [], ◌∷◌, Result, Ok, Err}
 use package.Rattle.calls.specs.Answer.{Answer, accepted, refused}
+use package.Rattle.answers.specs.Answers.{number_of, place_of}
+use package.Rattle.answers.specs.declared.Refusal.{Refusal}
 use package.Rattle.replay.specs.Playing.{Reply, played, malformed, too_wide, short_answers, unopened, cut}
 
 unfoldable pub check_told : Answer (Unit {0}) → List ℕ
@@ -26,3 +28,8 @@ replay_told (too_wide at) = 2 ∷ at ∷ 0 ∷ 0 ∷ []
 replay_told short_answers = 3 ∷ 0 ∷ 0 ∷ 0 ∷ []
 replay_told (unopened n p) = 4 ∷ 0 ∷ n ∷ p ∷ []
 replay_told (cut at) = 5 ∷ at ∷ 0 ∷ 0 ∷ []
+
+-- the same of an answer in code, by the two numbers that are told of what is accepted
+abbrev pub told_by : {A : Type 0} → (A → ℕ × ℕ) → Result A Refusal → List ℕ
+told_by f (Ok a) = 0 ∷ 0 ∷ (f a).0 ∷ (f a).1 ∷ []
+told_by f (Err r) = number_of r ∷ place_of r ∷ 0 ∷ 0 ∷ []

@@ -3,68 +3,21 @@
 // were written; the steps, or how many conversions stand.
 #![tactic(auto)]
 
+// answers as four numbers
+mod told;
+
 ghost use Rattle.std.specs.Prelude.{◌≡◌, length};
 ghost use Rattle.calls.specs.Answer.{cleared, overwritten};
 ghost use Rattle.calls.specs.Runs.{check_call, forward_call, backward_call, written};
 ghost use Rattle.calls.specs.Conversions.{open_call, convert_call, rollback_call};
 ghost use Rattle.calls.specs.Readers.{held_bytes, nurse_call, workshop_call};
 ghost use Rattle.calls.specs.Book.{after_open, after_turned};
-ghost use Rattle.answers.specs.Answers.{check_answer, run_answer, nurse_answer, write_answer, open_answer, held_answer, seen_answer, length_answer, summary};
-ghost use Rattle.replay.specs.Playing.{reply_of, replayed};
+ghost use Rattle.answers.specs.Answers.{open_answer, held_answer, seen_answer, length_answer, summary};
+ghost use Rattle.replay.specs.Playing.{replayed};
 ghost use Rattle.replay.specs.Booked.{Booked};
 ghost use Rattle.exports.specs.Told.{check_told, run_told, length_told, replay_told};
 
-use answers::{CheckAnswer, NurseAnswer, RunAnswer, WriteAnswer};
-use replay::replies::ReplayAnswer;
-
-fn check_told(answer: CheckAnswer) -> [u64; 4]
-    ensures { result ≡ check_told (check_answer answer) }
-{
-    match answer {
-        CheckAnswer::Accepted => [0, 0, 0, 0],
-        CheckAnswer::Refused(r) => [messages::number(r), messages::place(r), 0, 0],
-    }
-}
-
-fn run_told(answer: RunAnswer) -> [u64; 4]
-    ensures { result ≡ run_told (run_answer answer) }
-{
-    match answer {
-        RunAnswer::Ran(d) => [0, 0, d.len as u64, d.steps as u64],
-        RunAnswer::Refused(r) => [messages::number(r), messages::place(r), 0, 0],
-    }
-}
-
-fn nurse_told(answer: NurseAnswer) -> [u64; 4]
-    ensures { result ≡ run_told (nurse_answer answer) }
-{
-    match answer {
-        NurseAnswer::Shows(s) => [0, 0, s.len as u64, s.standing as u64],
-        NurseAnswer::Refused(r) => [messages::number(r), messages::place(r), 0, 0],
-    }
-}
-
-fn write_told(answer: WriteAnswer) -> [u64; 4]
-    ensures { result ≡ length_told (write_answer answer) }
-{
-    match answer {
-        WriteAnswer::Wrote(n) => [0, 0, n as u64, 0],
-        WriteAnswer::Refused(r) => [messages::number(r), messages::place(r), 0, 0],
-    }
-}
-
-fn replay_told(answer: ReplayAnswer) -> [u64; 4]
-    ensures { result ≡ replay_told (reply_of answer) }
-{
-    match answer {
-        ReplayAnswer::Played(k) => [0, k as u64, 0, 0],
-        ReplayAnswer::Malformed(at) => [1, at as u64, 0, 0],
-        ReplayAnswer::TooWide(at) => [2, at as u64, 0, 0],
-        ReplayAnswer::ShortAnswers => [3, 0, 0, 0],
-        ReplayAnswer::Unopened(r) => [4, 0, messages::number(r), messages::place(r)],
-        ReplayAnswer::Cut(at) => [5, at as u64, 0, 0],
-    }
-}
+use told::{replay_told, told_of};
 
 // Is the program accepted?
 #[unsafe(no_mangle)]
@@ -72,8 +25,7 @@ pub extern "C" fn corefun_check(program: &[u8], workspace: &mut [u8], told: &mut
     ensures answer { told.new ≡ check_told (check_call program.now (length workspace.old)) }
     ensures clear { workspace.new ≡ cleared (check_call program.now (length workspace.old)) workspace.old }
 {
-    let answer = engine::check(program, workspace);
-    *told = check_told(answer);
+    *told = told_of(engine::check(program, workspace));
 }
 
 // Runs a function forward.
@@ -92,8 +44,7 @@ pub extern "C" fn corefun_forward(
     ensures fills { output.new ≡ written (forward_call program.now function ancillae.now value.now fuel (length workspace.old) (length output.old)) output.old }
     ensures clear { workspace.new ≡ cleared (forward_call program.now function ancillae.now value.now fuel (length workspace.old) (length output.old)) workspace.old }
 {
-    let answer = engine::forward(program, function, ancillae, value, fuel, workspace, output);
-    *told = run_told(answer);
+    *told = told_of(engine::forward(program, function, ancillae, value, fuel, workspace, output));
 }
 
 // Runs a function backward.
@@ -112,8 +63,7 @@ pub extern "C" fn corefun_backward(
     ensures fills { output.new ≡ written (backward_call program.now function ancillae.now value.now fuel (length workspace.old) (length output.old)) output.old }
     ensures clear { workspace.new ≡ cleared (backward_call program.now function ancillae.now value.now fuel (length workspace.old) (length output.old)) workspace.old }
 {
-    let answer = engine::backward(program, function, ancillae, value, fuel, workspace, output);
-    *told = run_told(answer);
+    *told = told_of(engine::backward(program, function, ancillae, value, fuel, workspace, output));
 }
 
 // Opens a journal with a record.
@@ -129,8 +79,7 @@ pub extern "C" fn corefun_open(
     ensures keeps { journal.new ≡ (after_open journal.old (open_call program.now «record».now (length workspace.old) (length journal.old))).journal }
     ensures clear { workspace.new ≡ cleared (open_call program.now «record».now (length workspace.old) (length journal.old)) workspace.old }
 {
-    let answer = engine::open(program, record, workspace, journal);
-    *told = check_told(answer);
+    *told = told_of(engine::open(program, record, workspace, journal));
 }
 
 // Converts the held record.
@@ -148,8 +97,7 @@ pub extern "C" fn corefun_convert(
     ensures keeps { journal.new ≡ (after_turned journal.old (convert_call program.now function ancillae.now fuel (length workspace.old) journal.old)).journal }
     ensures clear { workspace.new ≡ cleared (convert_call program.now function ancillae.now fuel (length workspace.old) journal.old) workspace.old }
 {
-    let answer = engine::convert(program, function, ancillae, fuel, workspace, journal);
-    *told = run_told(answer);
+    *told = told_of(engine::convert(program, function, ancillae, fuel, workspace, journal));
 }
 
 // Rolls back the newest conversion.
@@ -165,8 +113,7 @@ pub extern "C" fn corefun_rollback(
     ensures keeps { journal.new ≡ (after_turned journal.old (rollback_call program.now fuel (length workspace.old) journal.old)).journal }
     ensures clear { workspace.new ≡ cleared (rollback_call program.now fuel (length workspace.old) journal.old) workspace.old }
 {
-    let answer = engine::rollback(program, fuel, workspace, journal);
-    *told = run_told(answer);
+    *told = told_of(engine::rollback(program, fuel, workspace, journal));
 }
 
 // The nurse's reader of a journal (document 02, F-1): the held value, and how many conversions stand.
@@ -175,8 +122,7 @@ pub extern "C" fn corefun_nurse(journal: &[u8], output: &mut [u8], told: &mut [u
     ensures answer { told.new ≡ run_told (seen_answer (nurse_call journal.now (length output.old))) }
     ensures fills { output.new ≡ overwritten (held_bytes (nurse_call journal.now (length output.old))) output.old }
 {
-    let answer = engine::nurse(journal, output);
-    *told = nurse_told(answer);
+    *told = told_of(engine::nurse(journal, output));
 }
 
 // The workshop's reader of a journal: the fields of all conversions, oldest first.
@@ -185,8 +131,7 @@ pub extern "C" fn corefun_workshop(journal: &[u8], output: &mut [u8], told: &mut
     ensures answer { told.new ≡ length_told (length_answer (workshop_call journal.now (length output.old))) }
     ensures fills { output.new ≡ overwritten (workshop_call journal.now (length output.old)) output.old }
 {
-    let answer = engine::workshop(journal, output);
-    *told = write_told(answer);
+    *told = told_of(engine::workshop(journal, output));
 }
 
 // Plays a script of calls on a journal. What is told: how it ended (0 played, 1 malformed, 2 a buffer too wide, 3 answers too short, 4 not
@@ -207,6 +152,5 @@ pub extern "C" fn corefun_replay(
     ensures clear { workspace.new ≡ (replayed program.now script.now journal.old answers.old workspace.old).workspace }
     ensures book { Booked program.now script.now journal.old answers.old workspace.old journal.new answers.new workspace.new (replayed program.now script.now journal.old answers.old workspace.old).reply }
 {
-    let answer = replay::replay(program, script, workspace, journal, answers);
-    *told = replay_told(answer);
+    *told = replay_told(replay::replay(program, script, workspace, journal, answers));
 }

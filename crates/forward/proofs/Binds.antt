@@ -29,9 +29,9 @@ use package.Rattle.forward.proofs.Runs.{says, slack, halted, part-refused, part-
 use package.Rattle.forward.proofs.Steps.{stepped}
 use Rattle.forward.specs.declared.outcomes.Refusal.{Refusal}
 use Rattle.forward.specs.declared.outcomes.Refusal.TheVariants.{Stuck}
-use Rattle.forward.specs.declared.outcomes.Status.TheVariants.{Value, Refused}
 use package.Rattle.decoded.specs.Rows.{first_in, kind_in, program_in, second_in, third_in, tree_in}
 use package.Rattle.decoded.proofs.Trees.{parts_case, parts_let, parts_letp, tree_case, tree_let, tree_letp}
+use Rattle.std.specs.Prelude.{Ok, Err}
 
 ----------------------------------------------------------------
 -- A variable more
@@ -173,8 +173,8 @@ module _ {code heap slots : List ℕ} {st : Machine} {sc : Scope} {t room : ℕ}
         (sym (ancillae_later rd d)) (sym (state_later rd d))
 
     -- a value of wrong shape
-    shape-stuck : {x : ℕ} (next : List TypeEntry → Val → Run Val) → r₁.status ≡ Value x → ((ys : List TypeEntry) → step ys ≡ after (res ys) (next ys))
-        → ((ys : List TypeEntry) → next ys (value_at heap₁ x) r₁.state.fuel ≡ stuck) → (r : Out) → r.status ≡ Refused Stuck → r.state ≡ r₁.state
+    shape-stuck : {x : ℕ} (next : List TypeEntry → Val → Run Val) → r₁.status ≡ Ok x → ((ys : List TypeEntry) → step ys ≡ after (res ys) (next ys))
+        → ((ys : List TypeEntry) → next ys (value_at heap₁ x) r₁.state.fuel ≡ stuck) → (r : Out) → r.status ≡ Err Stuck → r.state ≡ r₁.state
         → RanForward 1 heap heap₁ end slots slots₁ st r step
     unfolding refusal_of
     shape-stuck next s e z r s₂ q = slack (part-answered d next s e (halted d.graph end slots₁ r q s₂ z) (omega arith)) 1 (omega arith)
@@ -201,10 +201,10 @@ module _ {code heap slots : List ℕ} {st : Machine} {sc : Scope} {t room : ℕ}
       step-l : (ys : List TypeEntry) → step ys ≡ after (run b ys) (let_next b' ys)
       step-l ys = step_let ys ∙ ap₂ (λ b b'. after (run b ys) (let_next b' ys)) (sym q) (sym q')
 
-      pub let_refused : {why : Refusal} → r₁.status ≡ Refused why → RanForward 1 heap heap₁ end slots slots₁ st r₁ step
+      pub let_refused : {why : Refusal} → r₁.status ≡ Err why → RanForward 1 heap heap₁ end slots slots₁ st r₁ step
       let_refused s = slack (part-refused d (let_next b') s step-l) 1 (omega arith)
 
-      pub let_done : {x : ℕ} → r₁.status ≡ Value x → {heap₂ slots₂ : List ℕ} {r₂ : Out}
+      pub let_done : {x : ℕ} → r₁.status ≡ Ok x → {heap₂ slots₂ : List ℕ} {r₂ : Out}
           → RanForward 0 heap₁ heap₂ end slots₁ slots₂ r₁.state r₂ (under_of code heap₁ slots₁ r₁.state sc x b' (room - 1))
           → RanForward 1 heap heap₂ end slots slots₂ st r₂ step
       let_done {x} s d₂ = slack (part-answered d (let_next b') s step-l (says d₂ (under_later d x b')) (omega arith)) 1 (omega arith)
@@ -234,11 +234,11 @@ module _ {code heap slots : List ℕ} {st : Machine} {sc : Scope} {t room : ℕ}
       step_lp : (ys : List TypeEntry) → step ys ≡ after (run b ys) (letp_next b' ys)
       step_lp ys = step_letp ys ∙ ap₂ (λ b b'. after (run b ys) (letp_next b' ys)) (sym q) (sym q')
 
-      pub letp_refused : {why : Refusal} → r₁.status ≡ Refused why → RanForward 1 heap heap₁ end slots slots₁ st r₁ step
+      pub letp_refused : {why : Refusal} → r₁.status ≡ Err why → RanForward 1 heap heap₁ end slots slots₁ st r₁ step
       letp_refused s = slack (part-refused d (letp_next b') s step_lp) 1 (omega arith)
 
-      module _ {x : ℕ} (s : r₁.status ≡ Value x) where
-        pub letp_stuck : ¬ (nodeKind heap₁ x ≡ 3) → (r : Out) → r.status ≡ Refused Stuck → r.state ≡ r₁.state → RanForward 1 heap heap₁ end slots slots₁ st r step
+      module _ {x : ℕ} (s : r₁.status ≡ Ok x) where
+        pub letp_stuck : ¬ (nodeKind heap₁ x ≡ 3) → (r : Out) → r.status ≡ Err Stuck → r.state ≡ r₁.state → RanForward 1 heap heap₁ end slots slots₁ st r step
         letp_stuck n = shape-stuck d (letp_next b') s step_lp (λ ys. node-no-pair heap₁ x r₁.state.fuel (both-next b' ys) n)
 
         pub letp_done : nodeKind heap₁ x ≡ 3 → (y z : ℕ) → y ≡ left_at heap₁ x → z ≡ right_at heap₁ x → {heap₂ slots₂ : List ℕ} {r₂ : Out}
@@ -297,11 +297,11 @@ module _ {code heap slots : List ℕ} {st : Machine} {sc : Scope} {t room : ℕ}
       step-c : (ys : List TypeEntry) → step ys ≡ after (run b ys) (case_next (second_in code t) (third_in code t) ys)
       step-c ys = step_case ys ∙ ap (λ b. after (run b ys) (case_next (second_in code t) (third_in code t) ys)) (sym q)
 
-      pub case_refused : {why : Refusal} → r₁.status ≡ Refused why → RanForward 1 heap heap₁ end slots slots₁ st r₁ step
+      pub case_refused : {why : Refusal} → r₁.status ≡ Err why → RanForward 1 heap heap₁ end slots slots₁ st r₁ step
       case_refused s = slack (part-refused d (case_next (second_in code t) (third_in code t)) s step-c) 1 (omega arith)
 
-      module _ {x : ℕ} (s : r₁.status ≡ Value x) where
-        pub case_stuck : ¬ (nodeKind heap₁ x ≡ 1) → ¬ (nodeKind heap₁ x ≡ 2) → (r : Out) → r.status ≡ Refused Stuck → r.state ≡ r₁.state
+      module _ {x : ℕ} (s : r₁.status ≡ Ok x) where
+        pub case_stuck : ¬ (nodeKind heap₁ x ≡ 1) → ¬ (nodeKind heap₁ x ≡ 2) → (r : Out) → r.status ≡ Err Stuck → r.state ≡ r₁.state
             → RanForward 1 heap heap₁ end slots slots₁ st r step
         case_stuck n n' =
             shape-stuck d (case_next (second_in code t) (third_in code t)) s step-c

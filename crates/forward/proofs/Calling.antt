@@ -24,9 +24,9 @@ use package.Rattle.forward.proofs.Steps.{stepped}
 use package.Rattle.forward.proofs.Starting.{argument_scope, run-of-function}
 use package.Rattle.forward.proofs.Placing.{arguments, placed-value, placed-refused, few-count, place-room}
 use Rattle.forward.specs.declared.outcomes.Refusal.{Refusal}
-use Rattle.forward.specs.declared.outcomes.Status.TheVariants.{Value, Refused}
 use package.Rattle.decoded.specs.Rows.{argument_in, body_in, first_in, function_count, program_in, third_in, tree_in}
 use package.Rattle.decoded.proofs.Trees.{called-function, called-there, called-tree, tree-call}
+use Rattle.std.specs.Prelude.{Ok, Err}
 
 -- the scope of the function that is called: its arguments
 abbrev pub inner : Scope → ℕ → Scope
@@ -64,12 +64,12 @@ module _ {code heap slots : List ℕ} {st : Machine} {sc : Scope} {t room : ℕ}
   from_arguments : (ys : List TypeEntry) → step ys ≡ arguments_of code heap slots st sc t room 0 count ys (callee (function ys) ys)
   from_arguments ys = step_call ys (function ys) (called-there code ys (first_in code t) (called-function rd.rows t rd.term C.kind))
 
-  pub call-refused : {why : Refusal} → r₁.status ≡ Refused why → RanForward 1 heap heap₁ m slots slots₁ st r₁ step
+  pub call-refused : {why : Refusal} → r₁.status ≡ Err why → RanForward 1 heap heap₁ m slots slots₁ st r₁ step
   call-refused {why} s =
       slack (says D.ran (λ ys. meaning-refused heap₁ r₁ s ∙ sym (placed-refused heap₁ slots₁ m 0 count r₁.state.fuel (callee (function ys) ys) s)
       ∙ sym (D.answer ys (callee (function ys) ys)) ∙ sym (from_arguments ys))) 1 (omega arith)
 
-  module _ {n : ℕ} (s : r₁.status ≡ Value n) (g b : ℕ) (qg : g ≡ first_in code t) (qb : b ≡ body_in code g) where
+  module _ {n : ℕ} (s : r₁.status ≡ Ok n) (g b : ℕ) (qg : g ≡ first_in code t) (qb : b ≡ body_in code g) where
     all-arguments : Calls code t count count
     all-arguments = record { kind = C.kind; ancillae = C.ancillae; next = omega arith }
 

@@ -18,8 +18,11 @@ use package.Rattle.valuegraph.specs.Nodes.{kind_at, left_at, Room, of_kind, valu
 use package.Rattle.valuegraph.proofs.Heaps.{value-roll}
 use package.Rattle.scopes.specs.Slots.{unknown, found, node_or, slot_at, Slots, Machine, machine_of, scope_in, slots_of}
 use package.Rattle.scopes.proofs.Marks.{found-low, slot_in, slot-out}
-use package.Rattle.scopes.specs.declared.slots.Found.{Found}
-use package.Rattle.scopes.specs.declared.slots.Found.TheVariants.{Node, Unknown}
+use Rattle.std.specs.Prelude.{Option, Some, None}
+use package.Rattle.valuegraph.specs.Nodes.{kind_number, kind_named}
+use package.Rattle.valuegraph.specs.declared.kinds.Kind.{Kind}
+use package.Rattle.valuegraph.specs.declared.kinds.Kind.TheVariants.{Roll}
+use package.Rattle.valuegraph.proofs.Numbered.{kind_read}
 use package.Rattle.yields.specs.Yields.{ancillae_in, MayYield, Asks}
 use package.Rattle.yields.proofs.Ancillae.{length-ancillae}
 use package.Rattle.forward.specs.Outcomes.{Out, status_of, refusal_of, meaning, found_out, Finds, out_of}
@@ -29,17 +32,16 @@ use package.Rattle.forward.proofs.Runs.{meaning-value, meaning-refused, refusal-
 use package.Rattle.forward.proofs.Making.{test_true}
 use Rattle.forward.specs.declared.outcomes.Refusal.{Refusal}
 use Rattle.forward.specs.declared.outcomes.Refusal.TheVariants.{FirstMatch, Stuck}
-use Rattle.forward.specs.declared.outcomes.Status.{Status}
-use Rattle.forward.specs.declared.outcomes.Status.TheVariants.{Value, Refused}
 use package.Rattle.decoded.proofs.Trees.{parts_case}
 use package.Rattle.decoded.specs.Rows.{first_in, second_in, tree_in}
+use Rattle.std.specs.Prelude.{Result, Ok, Err}
 
 ----------------------------------------------------------------
 -- Variables
 
 -- a variable's node is one of the graph's
 pub slot-node : {heap slots : List ℕ} (base n i : ℕ) {top node : ℕ} → Graph heap top → Slots heap slots (base + n) top → top ≤ unknown
-    → slot_at heap slots base n i ≡ Node node → node < top
+    → slot_at heap slots base n i ≡ Some node → node < top
 slot-node {heap} {slots} base n i {top} {node} G S small e = go (dec_lt i n)
   where
     go : Dec (i < n) → node < top
@@ -52,23 +54,23 @@ slot-node {heap} {slots} base n i {top} {node} G S small e = go (dec_lt i n)
         let z : ◌≡◌ {A = ℕ} 0 1 = cc in
         absurd (omega arith)
 
-found-known : (st : Machine) {f : Found} {node : ℕ} → f ≡ Node node → record { status = Value node; state = st } ≡ found_out f st
+found-known : (st : Machine) {f : Option ℕ} {node : ℕ} → f ≡ Some node → record { status = Ok node; state = st } ≡ found_out f st
 unfolding found_out
 found-known st e = rw e
 
-found-unknown : (st : Machine) {f : Found} → f ≡ Unknown → record { status = Refused Stuck; state = st } ≡ found_out f st
+found-unknown : (st : Machine) {f : Option ℕ} → f ≡ None → record { status = Err Stuck; state = st } ≡ found_out f st
 unfolding found_out
 found-unknown st e = rw e
 
 -- the answer is the variable's node, or a refusal
 pub finds_node : {heap st : List ℕ} {scope : ℕ} (i : ℕ) → FindReady heap st scope → {node : ℕ}
-    → slot_at heap (slots_of st) (scope_in scope).base (scope_in scope).n i ≡ Node node
+    → slot_at heap (slots_of st) (scope_in scope).base (scope_in scope).n i ≡ Some node
     → Finds node (slot_at heap (slots_of st) (scope_in scope).base (scope_in scope).n i)
 finds_node {heap} {st} {scope} i R e =
     let low = slot-node (scope_in scope).base (scope_in scope).n i R.graph R.held (omega (arith, R.small, below-mark)) e in
     record { is = λ m. ap (λ s. record { status = s; state = m }) (is_value_lem (omega (arith, R.small))) ∙ found-known m e }
 
-pub finds_none : {f : Found} {r : ℕ} → f ≡ Unknown → status_of r ≡ Refused Stuck → Finds r f
+pub finds_none : {f : Option ℕ} {r : ℕ} → f ≡ None → status_of r ≡ Err Stuck → Finds r f
 finds_none e s = record { is = λ st. ap (λ s. record { status = s; state = st }) s ∙ found-unknown st e }
 
 ----------------------------------------------------------------
@@ -90,12 +92,12 @@ module _ {heap : List ℕ} (st : Machine) (G : Graph heap st.top) {node : ℕ} (
   held-lower : kind_at heap node ≡ 4 → (part : ℕ) → part ≡ left_at heap node → part < st.top
   held-lower k part q = rw q (omega (arith, (value-roll heap st.top G.right node low k).1))
 
-  unrolls-held : kind_at heap node ≡ 4 → (part : ℕ) → part ≡ left_at heap node → Unrolls heap st node (record { status = Value part; state = st })
+  unrolls-held : kind_at heap node ≡ 4 → (part : ℕ) → part ≡ left_at heap node → Unrolls heap st node (record { status = Ok part; state = st })
   unfolding on_roll
   unrolls-held k part q = record {
     state = refl;
     below = λ n e. let z : part ≡ n = cc in omega (arith, lower);
-    answer = λ t. meaning-value heap (record { status = Value part; state = st }) refl
+    answer = λ t. meaning-value heap (record { status = Ok part; state = st }) refl
         ∙ sym (test_true (fits (value_at heap part)) 14 t (value_at heap part) st.fuel (G.short part lower))
         ∙ sym (ap (λ v. on_roll v (λ v. test (fits v) 14 t (give v)) st.fuel) is_roll);
   }
@@ -106,28 +108,30 @@ module _ {heap : List ℕ} (st : Machine) (G : Graph heap st.top) {node : ℕ} (
       is_roll : value_at heap node ≡ roll (value_at heap part)
       is_roll = rw q (value-roll heap st.top G.right node low k).0
 
-  unrolls_missing : ¬ (kind_at heap node ≡ 4) → Unrolls heap st node (record { status = Refused Stuck; state = st })
+  unrolls_missing : ¬ (kind_at heap node ≡ 4) → Unrolls heap st node (record { status = Err Stuck; state = st })
   unfolding value_at value_within refusal_of
   unrolls_missing n = record {
     state = refl;
     below = λ n e. let z : ◌≡◌ {A = ℕ} 0 1 = cc in absurd (omega arith);
-    answer = λ t. meaning-refused heap (record { status = Refused Stuck; state = st }) refl
+    answer = λ t. meaning-refused heap (record { status = Err Stuck; state = st }) refl
         ∙ sym (no-roll (kind_at heap node) _ _ (λ v. test (fits v) 14 t (give v)) st.fuel (omega (arith, (G.right.node node low).kind)));
   }
 
 -- the answer is the node that a roll holds, or a refusal
 module _ {heap : List ℕ} {node : ℕ} where
-  as_status : (st : Machine) {a b : Status} → a ≡ b → Unrolls heap st node (record { status = b; state = st })
+  as_status : (st : Machine) {a b : Result ℕ Refusal} → a ≡ b → Unrolls heap st node (record { status = b; state = st })
       → Unrolls heap st node (record { status = a; state = st })
   as_status st e u = rw e u
 
-  pub roll-held : kind_at heap node ≡ 4 → {part : ℕ} → part ≡ left_at heap node → Unrolled heap node part
-  roll-held k {part} q = record {
-    is = λ st G low small. as_status st (is_value_lem (omega (arith, held-lower st G low k part q))) (unrolls-held st G low k part q);
+  pub roll-held : {x : Kind} → x ≡ kind_named (kind_at heap node) → x ≡ Roll → {part : ℕ} → part ≡ left_at heap node → Unrolled heap node part
+  roll-held {x} e k {part} q = record {
+    is = λ st G low small.
+        let four : kind_at heap node ≡ 4 = sym (kind_read G.right low e) ∙ ap kind_number k in
+        as_status st (is_value_lem (omega (arith, held-lower st G low four part q))) (unrolls-held st G low four part q);
   }
 
-  pub roll_missing : ¬ (kind_at heap node ≡ 4) → {r : ℕ} → status_of r ≡ Refused Stuck → Unrolled heap node r
-  roll_missing n s = record { is = λ st G low small. as_status st s (unrolls_missing st G low n) }
+  pub roll_missing : {x : Kind} → x ≡ kind_named (kind_at heap node) → ¬ (x ≡ Roll) → {r : ℕ} → status_of r ≡ Err Stuck → Unrolled heap node r
+  roll_missing e n s = record { is = λ st G low small. as_status st s (unrolls_missing st G low (λ z. n (e ∙ ap kind_named z))) }
 
 ----------------------------------------------------------------
 -- First match
@@ -164,7 +168,7 @@ module _ {code heap st : List ℕ} {scope t out : ℕ} (C : CheckReady code heap
   pub check-row : t < max_terms
   check-row = omega (arith, C.term, C.rows.few_terms)
 
-  pub check-refused : {why : Refusal} → status_of out ≡ Refused why → Checked before
+  pub check-refused : {why : Refusal} → status_of out ≡ Err why → Checked before
   check-refused {why} s = record {
     state = refl;
     node = λ n e. e;
@@ -172,7 +176,7 @@ module _ {code heap st : List ℕ} {scope t out : ℕ} (C : CheckReady code heap
   }
 
   -- the value of a case that chooses by an ancilla stands
-  pub check-chosen : {node : ℕ} → status_of out ≡ Value node → {c : Bool} → Chooses c → c ≡ true → Checked before
+  pub check-chosen : {node : ℕ} → status_of out ≡ Ok node → {c : Bool} → Chooses c → c ≡ true → Checked before
   unfolding test
   check-chosen {node} s E yes-it = record {
     state = refl;
@@ -183,7 +187,7 @@ module _ {code heap st : List ℕ} {scope t out : ℕ} (C : CheckReady code heap
         ∙ ap (λ c. c || not (may_yield (ancillae_in heap st scope) (tree_in code ys (second_in code t)) (value_at heap node))) yes-it));
   }
 
-  module _ {node : ℕ} (s : status_of out ≡ Value node) {c : Bool} (E : Chooses c) (plain : c ≡ false) (b : ℕ) (e : b ≡ second_in code t) where
+  module _ {node : ℕ} (s : status_of out ≡ Ok node) {c : Bool} (E : Chooses c) (plain : c ≡ false) (b : ℕ) (e : b ≡ second_in code t) where
     pub check-asks : Asks code heap st scope b node
     check-asks = record {
       rows = C.rows;
@@ -212,7 +216,7 @@ module _ {code heap st : List ℕ} {scope t out : ℕ} (C : CheckReady code heap
         answer = λ ys. meaning-value heap before s ∙ sym (went_on ys ∙ ap (λ b. test (not b) 15 t (give (value_at heap node)) (machine_of st).fuel) f);
       }
 
-      pub check-yields : r ≡ true → {a : Status} → a ≡ Refused (FirstMatch t) → Checked (record { status = a; state = machine_of st })
+      pub check-yields : r ≡ true → {a : Result ℕ Refusal} → a ≡ Err (FirstMatch t) → Checked (record { status = a; state = machine_of st })
       unfolding test refusal_of
       check-yields f {a} s' = record {
         state = refl;

@@ -21,6 +21,10 @@ use package.Rattle.forward.proofs.Answers.{below-mark}
 use package.Rattle.forward.proofs.Runs.{later, ancillae-held}
 use package.Rattle.forward.proofs.Steps.{term-ready, term_done, var_done, unit_done}
 use package.Rattle.forward.proofs.Binds.{opened, bound-ready, bound_done, bound-twice}
+use package.Rattle.valuegraph.specs.Nodes.{kind_number, kind_named, kind_at}
+use package.Rattle.valuegraph.specs.declared.kinds.Kind.{Kind}
+use package.Rattle.valuegraph.proofs.Numbered.{kind_read}
+use Rattle.std.specs.Prelude.{Ok}
 
 ----------------------------------------------------------------
 -- Slots
@@ -60,6 +64,20 @@ module _ {code heap st st₁ : List ℕ} {scope t room : ℕ} (rd : ReadyIn 0 0 
 
   pub spent-fuel : get_or st₁ 1 0 + 1 ≡ get_or st 1 0
   spent-fuel = omega (arith, ap (λ (m : Machine). m.fuel) M.machine)
+
+-- the same, by the fuel as the code has read it
+module _ {code heap st : List ℕ} {scope t room : ℕ} (rd : ReadyIn 0 0 code heap st scope t room) {fuel : ℕ} (q : fuel ≡ (machine_of st).fuel)
+    (f : ¬ (fuel ≡ 0)) (h : ¬ (room ≡ 0)) {st₁ : List ℕ} (M : Moved st st₁ (record { top = (machine_of st).top; fuel = (machine_of st).fuel - 1 })) where
+  pub entered : ReadyIn 1 0 code heap st₁ scope t room × (get_or st₁ 1 0 + 1 ≡ get_or st 1 0)
+  entered = (spent-ready rd (λ e. f (q ∙ e)) h M, spent-fuel rd (λ e. f (q ∙ e)) h M)
+
+  pub entered_done : {heap' st' : List ℕ} {r : ℕ} → Steps code heap heap' st₁ st' scope t room r → Evaluates code heap heap' st st' scope t room r
+  entered_done = spent_done rd (λ e. f (q ∙ e)) h M
+
+-- the kind of a value's node, as the code has read it
+pub value_kind : {code heap heap' st st' : List ℕ} {scope t room r : ℕ} → Evaluates code heap heap' st st' scope t room r → {n : ℕ} → status_of r ≡ Ok n → {x : Kind}
+    → x ≡ kind_named (kind_at heap' n) → kind_number x ≡ kind_at heap' n
+value_kind E s e = kind_read E.ran.graph.right (E.ran.node _ s) e
 
 -- steps without parts
 module _ {code heap st : List ℕ} {scope t room : ℕ} (rd : ReadyIn 1 0 code heap st scope t room) where

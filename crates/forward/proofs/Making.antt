@@ -15,9 +15,9 @@ use package.Rattle.forward.specs.Ready.{Graph, Makes}
 use package.Rattle.forward.proofs.Answers.{is_value_lem}
 use package.Rattle.forward.proofs.Runs.{meaning-value, meaning-refused}
 use Rattle.forward.specs.declared.outcomes.Refusal.TheVariants.{Long}
-use Rattle.forward.specs.declared.outcomes.Status.{Status}
-use Rattle.forward.specs.declared.outcomes.Status.TheVariants.{Refused}
 use package.Rattle.scopes.specs.Slots.{Machine}
+use Rattle.forward.specs.declared.outcomes.Refusal.{Refusal}
+use Rattle.std.specs.Prelude.{Result, Err}
 
 -- more nodes
 pub graph_later : {heap heap' : List ℕ} {top top' : ℕ} → Graph heap top → Agree top heap heap' → Heap heap' top' → top ≤ top' → Graph heap' top'
@@ -79,7 +79,7 @@ module _ (st : Machine) {made : Bool} (t : ℕ) where
   unfolding finished
   finish_new e l = rw (finished, e, is_value_lem l)
 
-  pub finish_old : made ≡ false → {s : Status} → s ≡ Refused (Long t) → record { status = s; state = st } ≡ finished made st t
+  pub finish_old : made ≡ false → {s : Result ℕ Refusal} → s ≡ Err (Long t) → record { status = s; state = st } ≡ finished made st t
   unfolding finished
   finish_old e q = rw (finished, e, q)
 

@@ -21,10 +21,9 @@ use package.Rattle.forward.specs.Outcomes.{Out, refusal_of}
 use package.Rattle.forward.specs.Ready.{Ready, RanForward, ancillae_of, state_of, run_of, values_at, arguments_of, placed_of, Places, Calls}
 use package.Rattle.forward.proofs.Runs.{refusal-after, answered, refused, says, then, fewer, ancillae_later, state_later, part}
 use Rattle.forward.specs.declared.outcomes.Refusal.{Refusal}
-use Rattle.forward.specs.declared.outcomes.Status.{Status}
-use Rattle.forward.specs.declared.outcomes.Status.TheVariants.{Value, Refused}
 use package.Rattle.decoded.specs.Rows.{room_for, argument_in, arguments_in, kind_in, program_in, third_in, tree_in}
 use package.Rattle.decoded.proofs.Trees.{part-argument}
+use Rattle.std.specs.Prelude.{Result, Ok, Err}
 
 ----------------------------------------------------------------
 -- Arguments one after the other
@@ -83,12 +82,12 @@ pub values-front : (heap slots : List ℕ) (from n n' : ℕ) → n ≡ suc n'
 unfolding values_at
 values-front heap slots from n n' e = rw e
 
-pub placed-value : (heap slots : List ℕ) (m k count fuel : ℕ) {s : Status} {node : ℕ} (next : List Val → Val → Run Val) → s ≡ Value node
+pub placed-value : (heap slots : List ℕ) (m k count fuel : ℕ) {s : Result ℕ Refusal} {node : ℕ} (next : List Val → Val → Run Val) → s ≡ Ok node
     → placed_of heap slots m k count fuel s next ≡ next (values_at heap slots (m + k) (count - k)) (value_at heap (get_or slots (m + count) 0)) fuel
 unfolding placed_of
 placed-value heap slots m k count fuel next e = ap (λ s. placed_of heap slots m k count fuel s next) e
 
-pub placed-refused : (heap slots : List ℕ) (m k count fuel : ℕ) {s : Status} {why : Refusal} (next : List Val → Val → Run Val) → s ≡ Refused why
+pub placed-refused : (heap slots : List ℕ) (m k count fuel : ℕ) {s : Result ℕ Refusal} {why : Refusal} (next : List Val → Val → Run Val) → s ≡ Err why
     → placed_of heap slots m k count fuel s next ≡ refusal_of why
 unfolding placed_of
 placed-refused heap slots m k count fuel next e = ap (λ s. placed_of heap slots m k count fuel s next) e
@@ -136,7 +135,7 @@ module _ {code heap slots : List ℕ} {st : Machine} {sc : Scope} {t room : ℕ}
       at-end : k ≡ count → (ys : List TypeEntry) → go ys (tree_in code ys (argument_in code t count)) st.fuel ≡ run_of code heap slots st sc b (room - 1) ys
       at-end e ys = ap (λ b. run_of code heap slots st sc b (room - 1) ys) (ap (argument_in code t) (sym e) ∙ sym q)
 
-      pub place-refused : {why : Refusal} → r₁.status ≡ Refused why → Places code heap heap₁ slots slots₁ st sc t room k count r₁
+      pub place-refused : {why : Refusal} → r₁.status ≡ Err why → Places code heap heap₁ slots slots₁ st sc t room k count r₁
       place-refused {why} s = record {
         ran = says d (λ ys. sym (d.answer ys));
         held = λ n e. absurd (let z : ◌≡◌ {A = ℕ} 0 1 = cc in omega arith);
@@ -154,7 +153,7 @@ module _ {code heap slots : List ℕ} {st : Machine} {sc : Scope} {t room : ℕ}
               ∙ ap (λ x. after x (next [])) (at-end (omega (arith, C.next)) ys ∙ refused d s ys)
               ∙ refusal-after why (next [])
 
-      module _ {x : ℕ} (s : r₁.status ≡ Value x) where
+      module _ {x : ℕ} (s : r₁.status ≡ Ok x) where
         -- the dynamic term
         pub place-last : k ≡ count → (slots₂ : List ℕ) → slots₂ ≡ set slots₁ (m + k) x → Places code heap heap₁ slots slots₂ st sc t room k count r₁
         place-last e slots₂ e₂ = record {
@@ -195,13 +194,13 @@ module _ {code heap slots : List ℕ} {st : Machine} {sc : Scope} {t room : ℕ}
           elsewhere j n = rw e₃ (sym (get_or-set_other slots₂ (m + k) j x 0 n))
 
           -- where the others were placed, this one is too
-          one_more : (next : List Val → Val → Run Val) (s₂ : Status) → r₂.status ≡ s₂
+          one_more : (next : List Val → Val → Run Val) (s₂ : Result ℕ Refusal) → r₂.status ≡ s₂
               → placed_of heap₂ slots₂ m (k + 1) count r₂.state.fuel s₂ (λ vs. next (value_at heap₁ x ∷ vs)) ≡ placed_of heap₂ slots₃ m k count
               r₂.state.fuel s₂ next
-          one_more next (Refused why) e =
+          one_more next (Err why) e =
               placed-refused heap₂ slots₂ m (k + 1) count r₂.state.fuel (λ vs. next (value_at heap₁ x ∷ vs)) refl
               ∙ sym (placed-refused heap₂ slots₃ m k count r₂.state.fuel next refl)
-          one_more next (Value node) e =
+          one_more next (Ok node) e =
               placed-value heap₂ slots₂ m (k + 1) count r₂.state.fuel (λ vs. next (value_at heap₁ x ∷ vs)) refl
               ∙ ap₂ (λ vs v. next vs v r₂.state.fuel) values (ap (value_at heap₂) (elsewhere (m + count) (λ q. omega arith)))
               ∙ sym (placed-value heap₂ slots₃ m k count r₂.state.fuel next refl)
@@ -245,7 +244,7 @@ module _ {code heap slots : List ℕ} {st : Machine} {sc : Scope} {t room : ℕ}
                 ∙ one_more next r₂.status refl;
           }
             where
-              slot : (n : ℕ) → r₂.status ≡ Value n → (j : ℕ) → k ≤ j → j ≤ count → Dec (k < j) → get_or slots₃ (m + j) 0 < r₂.state.top
+              slot : (n : ℕ) → r₂.status ≡ Ok n → (j : ℕ) → k ≤ j → j ≤ count → Dec (k < j) → get_or slots₃ (m + j) 0 < r₂.state.top
               slot n q j low high (yes h) = rw (← elsewhere (m + j) (λ z. omega arith)) (D.held n q j (omega arith) high)
               slot n q j low high (no h) = rw (let z : m + j ≡ m + k = omega arith in z, here) (omega (arith, d.node x s, D.ran.grows))
 

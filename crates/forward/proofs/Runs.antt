@@ -21,16 +21,16 @@ use package.Rattle.forward.specs.Outcomes.{Out, refusal_of, answer_of, meaning}
 use package.Rattle.forward.specs.Ready.{Graph, Ready, RanForward, Makes, ancillae_of, state_of}
 use Rattle.forward.specs.declared.outcomes.Refusal.{Refusal}
 use Rattle.forward.specs.declared.outcomes.Refusal.TheVariants.{Fuel, Height, Long, FirstMatch, Stuck}
-use Rattle.forward.specs.declared.outcomes.Status.TheVariants.{Value, Refused}
+use Rattle.std.specs.Prelude.{Ok, Err}
 
 ----------------------------------------------------------------
 -- What an outcome says
 
-pub meaning-value : (heap : List ℕ) (out : Out) {x : ℕ} → out.status ≡ Value x → meaning heap out ≡ ok (value_at heap x) out.state.fuel
+pub meaning-value : (heap : List ℕ) (out : Out) {x : ℕ} → out.status ≡ Ok x → meaning heap out ≡ ok (value_at heap x) out.state.fuel
 unfolding answer_of
 meaning-value heap out e = ap (answer_of heap out.state.fuel) e
 
-pub meaning-refused : (heap : List ℕ) (out : Out) {w : Refusal} → out.status ≡ Refused w → meaning heap out ≡ refusal_of w
+pub meaning-refused : (heap : List ℕ) (out : Out) {w : Refusal} → out.status ≡ Err w → meaning heap out ≡ refusal_of w
 unfolding answer_of
 meaning-refused heap out e = ap (answer_of heap out.state.fuel) e
 
@@ -45,10 +45,10 @@ refusal-after Stuck k = refl
 
 module _ {k : ℕ} {heap heap' : List ℕ} {m : ℕ} {slots slots' : List ℕ} {st : Machine} {out : Out} {res : List TypeEntry → Res Val}
     (d : RanForward k heap heap' m slots slots' st out res) where
-  pub answered : {x : ℕ} → out.status ≡ Value x → (ys : List TypeEntry) → res ys ≡ ok (value_at heap' x) out.state.fuel
+  pub answered : {x : ℕ} → out.status ≡ Ok x → (ys : List TypeEntry) → res ys ≡ ok (value_at heap' x) out.state.fuel
   answered e ys = sym (d.answer ys) ∙ meaning-value heap' out e
 
-  pub refused : {w : Refusal} → out.status ≡ Refused w → (ys : List TypeEntry) → res ys ≡ refusal_of w
+  pub refused : {w : Refusal} → out.status ≡ Err w → (ys : List TypeEntry) → res ys ≡ refusal_of w
   refused e ys = sym (d.answer ys) ∙ meaning-refused heap' out e
 
   -- the same run, said to give another thing that is equal
@@ -82,7 +82,7 @@ module _ {k : ℕ} {heap heap' : List ℕ} {m : ℕ} {slots slots' : List ℕ} {
 -- Runs that make nothing, or one node
 
 module _ {heap : List ℕ} {st : Machine} (G : Graph heap st.top) (m : ℕ) (slots : List ℕ) where
-  pub still : (out : Out) {res : List TypeEntry → Res Val} → out.state ≡ st → ((n : ℕ) → out.status ≡ Value n → n < st.top)
+  pub still : (out : Out) {res : List TypeEntry → Res Val} → out.state ≡ st → ((n : ℕ) → out.status ≡ Ok n → n < st.top)
       → ((ys : List TypeEntry) → meaning heap out ≡ res ys) → RanForward 0 heap heap m slots slots st out res
   still out e node a = record {
     agree = agree_refl _ heap;
@@ -96,7 +96,7 @@ module _ {heap : List ℕ} {st : Machine} (G : Graph heap st.top) (m : ℕ) (slo
     answer = a;
   }
 
-  pub halted : (out : Out) {w : Refusal} {res : List TypeEntry → Res Val} → out.state ≡ st → out.status ≡ Refused w
+  pub halted : (out : Out) {w : Refusal} {res : List TypeEntry → Res Val} → out.state ≡ st → out.status ≡ Err w
       → ((ys : List TypeEntry) → res ys ≡ refusal_of w) → RanForward 0 heap heap m slots slots st out res
   halted out e s a =
       still out e (λ n q. let z : ◌≡◌ {A = ℕ} 0 1 = cc in absurd (omega arith)) (λ ys. meaning-refused heap out s ∙ sym (a ys))
@@ -137,13 +137,13 @@ module _ {heap heap₁ : List ℕ} {m : ℕ} {slots slots₁ : List ℕ} {st : M
   }
 
   -- a part was refused, and so is the whole
-  pub part-refused : {w : Refusal} {res : List TypeEntry → Res Val} (next : List TypeEntry → Val → Run Val) → r.status ≡ Refused w
+  pub part-refused : {w : Refusal} {res : List TypeEntry → Res Val} (next : List TypeEntry → Val → Run Val) → r.status ≡ Err w
       → ((ys : List TypeEntry) → res ys ≡ after (res₁ ys) (next ys)) → RanForward 0 heap heap₁ m slots slots₁ st r res
   part-refused {w} next s e =
       says d (λ ys. refused d s ys ∙ sym (refusal-after w (next ys)) ∙ sym (ap (λ x. after x (next ys)) (refused d s ys)) ∙ sym (e ys))
 
   -- a part was answered, and the run goes on
-  pub part-answered : {x : ℕ} {res : List TypeEntry → Res Val} (next : List TypeEntry → Val → Run Val) → r.status ≡ Value x
+  pub part-answered : {x : ℕ} {res : List TypeEntry → Res Val} (next : List TypeEntry → Val → Run Val) → r.status ≡ Ok x
       → ((ys : List TypeEntry) → res ys ≡ after (res₁ ys) (next ys))
       → {k : ℕ} {heap₂ : List ℕ} {m' : ℕ} {slots₂ : List ℕ} {out : Out}
       → RanForward k heap₁ heap₂ m' slots₁ slots₂ r.state out (λ ys. next ys (value_at heap₁ x) r.state.fuel)

@@ -16,8 +16,7 @@ use package.Rattle.calls.specs.Entries.{TypeEntry}
 use package.Rattle.valuegraph.specs.Nodes.{Room, of_kind, Single, value_at}
 use package.Rattle.valuegraph.proofs.Heaps.{value-kept}
 use package.Rattle.scopes.specs.Slots.{slot_at, meaning as slotMeaning, Machine, Scope}
-use package.Rattle.scopes.specs.declared.slots.Found.{Found}
-use package.Rattle.scopes.specs.declared.slots.Found.TheVariants.{Node, Unknown}
+use Rattle.std.specs.Prelude.{Option, Some, None}
 use package.Rattle.scopes.proofs.Scopes.{known-filled}
 use package.Rattle.yields.specs.Yields.{Wraps}
 use package.Rattle.forward.specs.Outcomes.{Out, stopped, refusal_of, meaning, found_out}
@@ -28,9 +27,9 @@ use package.Rattle.forward.proofs.Answers.{below-mark}
 use package.Rattle.forward.proofs.Leaves.{slot-node}
 use Rattle.forward.specs.declared.outcomes.Refusal.{Refusal}
 use Rattle.forward.specs.declared.outcomes.Refusal.TheVariants.{Fuel, Height}
-use Rattle.forward.specs.declared.outcomes.Status.TheVariants.{Value, Refused}
 use package.Rattle.decoded.specs.Rows.{first_in, kind_in, program_in, second_in, tree_in}
 use package.Rattle.decoded.proofs.Trees.{part_inl, part_inr, part-roll, part_unroll, parts-pair, tree-entry, tree_inl, tree_inr, tree-pair, tree-roll, tree-unit, tree_unroll, tree-var}
+use Rattle.std.specs.Prelude.{Ok, Err}
 
 ----------------------------------------------------------------
 -- A term is entered
@@ -56,14 +55,14 @@ module _ {code heap slots : List ℕ} {st : Machine} {sc : Scope} {t room : ℕ}
   abbrev place : (ys : List TypeEntry) → entry (tree_in code ys t) ≡ t
   place ys = tree-entry rd.rows t rd.term ys
 
-  pub term-spent : (r : Out) → r.status ≡ Refused (Fuel t) → r.state ≡ st → st.fuel ≡ 0
+  pub term-spent : (r : Out) → r.status ≡ Err (Fuel t) → r.state ≡ st → st.fuel ≡ 0
       → RanForward 0 heap heap (sc.base + sc.n) slots slots st r (run_of code heap slots st sc t room)
   unfolding refusal_of
   term-spent r s q z =
       halted rd.graph _ slots r q s (λ ys. spent (program_in code ys) _ _ _ room st.fuel z ∙ ap (stop 12) (place ys))
 
   module _ (some-fuel : ¬ (st.fuel ≡ 0)) where
-    pub term_high : (r : Out) → r.status ≡ Refused (Height t) → r.state ≡ st → room ≡ 0
+    pub term_high : (r : Out) → r.status ≡ Err (Height t) → r.state ≡ st → room ≡ 0
         → RanForward 0 heap heap (sc.base + sc.n) slots slots st r (run_of code heap slots st sc t room)
     unfolding refusal_of
     term_high r s q z =
@@ -157,18 +156,18 @@ module _ {code heap slots : List ℕ} {st : Machine} {sc : Scope} {t room : ℕ}
     unfolding found_out on_some refusal_of
     var_done r e = slack (go (slot_at heap slots sc.base sc.n (first_in code t)) refl) 1 (omega arith)
       where
-        read : {f : Found} → slot_at heap slots sc.base sc.n (first_in code t) ≡ f → r ≡ found_out f st
+        read : {f : Option ℕ} → slot_at heap slots sc.base sc.n (first_in code t) ≡ f → r ≡ found_out f st
         read q = e ∙ ap (λ f. found_out f st) q
 
-        go : (f : Found) → slot_at heap slots sc.base sc.n (first_in code t) ≡ f → RanForward 0 heap heap m slots slots st r step
-        go (Node node) q =
+        go : (f : Option ℕ) → slot_at heap slots sc.base sc.n (first_in code t) ≡ f → RanForward 0 heap heap m slots slots st r step
+        go (Some node) q =
             let below : node < st.top = slot-node sc.base sc.n (first_in code t) rd.graph rd.held (omega (arith, rd.small, below-mark)) q in
             still rd.graph m slots r (ap (λ (r : Out). r.state) (read q))
             (λ n s. let z : node ≡ n = cc (ap (λ (r : Out). r.status) (read q)) in omega arith)
-            (λ ys. ap (meaning heap) (read q) ∙ meaning-value heap (found_out (Node node) st) refl
+            (λ ys. ap (meaning heap) (read q) ∙ meaning-value heap (found_out (Some node) st) refl
             ∙ sym (test_true (fits (value_at heap node)) 14 t (value_at heap node) st.fuel (rd.graph.short node below))
             ∙ sym (step-var ys ∙ ap (λ f. on_some (slotMeaning heap f) (λ v. test (fits v) 14 t (give v)) st.fuel) q))
-        go Unknown q =
+        go None q =
             halted rd.graph m slots r (ap (λ (r : Out). r.state) (read q)) (ap (λ (r : Out). r.status) (read q))
             (λ ys. step-var ys ∙ ap (λ f. on_some (slotMeaning heap f) (λ v. test (fits v) 14 t (give v)) st.fuel) q)
 
@@ -208,10 +207,10 @@ module _ {code heap slots : List ℕ} {st : Machine} {sc : Scope} {t room : ℕ}
         step-b : (ys : List TypeEntry) → step ys ≡ after (run b ys) wrapped
         step-b ys = step_wrap ys ∙ ap (λ b. after (run b ys) wrapped) (sym q)
 
-        pub wrap_refused : {why : Refusal} → r₁.status ≡ Refused why → RanForward 1 heap heap₁ m slots slots₁ st r₁ step
+        pub wrap_refused : {why : Refusal} → r₁.status ≡ Err why → RanForward 1 heap heap₁ m slots slots₁ st r₁ step
         wrap_refused s = slack (part-refused d (λ ys. wrapped) s step-b) 1 (omega arith)
 
-        pub wrap_done : {x : ℕ} → r₁.status ≡ Value x → {heap₂ : List ℕ} {r₂ : Out}
+        pub wrap_done : {x : ℕ} → r₁.status ≡ Ok x → {heap₂ : List ℕ} {r₂ : Out}
             → Makes heap₁ heap₂ r₁.state r₂ t (of_kind kind (value_at heap₁ x) (value_at heap₁ x))
             → RanForward 1 heap heap₂ m slots slots₁ st r₂ step
         wrap_done s n = part-answered d (λ ys. wrapped) s step-b (one-node m slots₁ n (λ ys. n.answer)) (omega arith)
@@ -235,10 +234,10 @@ module _ {code heap slots : List ℕ} {st : Machine} {sc : Scope} {t room : ℕ}
         step_u : (ys : List TypeEntry) → step ys ≡ after (run b ys) unwrapped
         step_u ys = step_unroll ys ∙ ap (λ b. after (run b ys) unwrapped) (sym q)
 
-        pub unroll_refused : {why : Refusal} → r₁.status ≡ Refused why → RanForward 1 heap heap₁ m slots slots₁ st r₁ step
+        pub unroll_refused : {why : Refusal} → r₁.status ≡ Err why → RanForward 1 heap heap₁ m slots slots₁ st r₁ step
         unroll_refused s = slack (part-refused d (λ ys. unwrapped) s step_u) 1 (omega arith)
 
-        pub unroll_done : {x : ℕ} → r₁.status ≡ Value x → {r₂ : Out} → Unrolls heap₁ r₁.state x r₂ → RanForward 1 heap heap₁ m slots slots₁ st r₂ step
+        pub unroll_done : {x : ℕ} → r₁.status ≡ Ok x → {r₂ : Out} → Unrolls heap₁ r₁.state x r₂ → RanForward 1 heap heap₁ m slots slots₁ st r₂ step
         unroll_done s {r₂} u =
             slack (part-answered d (λ ys. unwrapped) s step_u (still d.graph m slots₁ r₂ u.state u.below (λ ys. u.answer t)) (omega arith)) 1
             (omega arith)
@@ -269,20 +268,20 @@ module _ {code heap slots : List ℕ} {st : Machine} {sc : Scope} {t room : ℕ}
       step-p : (ys : List TypeEntry) → step ys ≡ after (run b ys) (second-part b' ys)
       step-p ys = step-pair ys ∙ ap₂ (λ b b'. after (run b ys) (second-part b' ys)) (sym q) (sym q')
 
-      pub pair-refused : {why : Refusal} → r₁.status ≡ Refused why → RanForward 1 heap heap₁ m slots slots₁ st r₁ step
+      pub pair-refused : {why : Refusal} → r₁.status ≡ Err why → RanForward 1 heap heap₁ m slots slots₁ st r₁ step
       pair-refused s = slack (part-refused d (second-part b') s step-p) 1 (omega arith)
 
-      module _ {x : ℕ} (s : r₁.status ≡ Value x) {heap₂ slots₂ : List ℕ} {r₂ : Out}
+      module _ {x : ℕ} (s : r₁.status ≡ Ok x) {heap₂ slots₂ : List ℕ} {r₂ : Out}
           (d₂ : RanForward 0 heap₁ heap₂ m slots₁ slots₂ r₁.state r₂ (run_of code heap₁ slots₁ r₁.state sc b' (room - 1))) where
         then-second : RanForward 0 heap₁ heap₂ m slots₁ slots₂ r₁.state r₂ (run_of code heap slots r₁.state sc b' (room - 1))
         then-second = says d₂ (run_later d b')
 
-        pub pair-refused_2 : {why : Refusal} → r₂.status ≡ Refused why → RanForward 1 heap heap₂ m slots slots₂ st r₂ step
+        pub pair-refused_2 : {why : Refusal} → r₂.status ≡ Err why → RanForward 1 heap heap₂ m slots slots₂ st r₂ step
         pair-refused_2 s₂ =
             slack (part-answered d (second-part b') s step-p (part-refused then-second (λ ys. paired (value_at heap₁ x)) s₂ (λ ys. refl)) (omega arith)) 1
             (omega arith)
 
-        pub pair_done : {x₂ : ℕ} → r₂.status ≡ Value x₂ → {heap₃ : List ℕ} {r₃ : Out}
+        pub pair_done : {x₂ : ℕ} → r₂.status ≡ Ok x₂ → {heap₃ : List ℕ} {r₃ : Out}
             → Makes heap₂ heap₃ r₂.state r₃ t (pair (value_at heap₂ x) (value_at heap₂ x₂))
             → RanForward 1 heap heap₃ m slots slots₂ st r₃ step
         pair_done {x₂} s₂ n =

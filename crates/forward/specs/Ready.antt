@@ -1,7 +1,7 @@
 -- What evaluation asks for, and what it ensures. A run has the value graph up to `top` and fuel; a scope is `n` variables in the slots from
 -- `base` on, of which the first `q` are the ancilla parameters. The last section says the same of the numbers that the code is lent. Laws:
 -- proofs/Runs, Steps; proofs/Lending of the last section.
-use Rattle.std.specs.Prelude.{ℕ, zero, suc, ◌+◌, ◌*◌, ◌-◌, ◌≤◌, ◌<◌, ◌≡◌, Bool, true, List, [], ◌∷◌, length, get_or}
+use Rattle.std.specs.Prelude.{ℕ, zero, suc, ◌+◌, ◌*◌, ◌-◌, ◌≤◌, ◌<◌, ◌≡◌, Bool, true, List, [], ◌∷◌, length, get_or, Result, Ok, Err}
 use Rattle.std.proofs.Math.Option.{some}
 use package.Rattle.program.specs.Kinds.{case_kind, call_kind}
 use package.Rattle.rules.specs.Limits.{fits}
@@ -15,8 +15,7 @@ use package.Rattle.valuegraph.specs.Nodes.{node_bytes, Room, value_at, Agree, He
 use package.Rattle.scopes.specs.Slots.{unknown, slot_count, state_count, Machine, Scope, machine_of, slots_of, scope_in, state_at, Slots, slots_per_height}
 use package.Rattle.yields.specs.Yields.{ancillae_at, AncillaeIn}
 use package.Rattle.forward.specs.Outcomes.{Out, stopped, status_of, out_of, refusal_of, meaning, finished}
-use Rattle.forward.specs.declared.outcomes.Status.{Status}
-use Rattle.forward.specs.declared.outcomes.Status.TheVariants.{Value, Refused}
+use Rattle.forward.specs.declared.outcomes.Refusal.{Refusal}
 
 ----------------------------------------------------------------
 -- The value graph in a run
@@ -59,7 +58,7 @@ pub record RanForward (k : ℕ) (heap heap' : List ℕ) (m : ℕ) (slots slots' 
   pub grows : st.top ≤ out.state.top
   pub spends : out.state.fuel ≤ st.fuel
   pub owes : out.state.top + out.state.fuel ≤ st.top + st.fuel + k
-  pub node : (n : ℕ) → out.status ≡ Value n → n < out.state.top
+  pub node : (n : ℕ) → out.status ≡ Ok n → n < out.state.top
   pub answer : (ys : List TypeEntry) → meaning heap' out ≡ res ys
 
 -- The value `v` is made, or refused as too long at term `t` (14).
@@ -69,7 +68,7 @@ pub record Makes (heap heap' : List ℕ) (st : Machine) (out : Out) (t : ℕ) (v
   pub grows : st.top ≤ out.state.top
   pub spends : out.state.fuel ≡ st.fuel
   pub one : out.state.top ≤ st.top + 1
-  pub node : (n : ℕ) → out.status ≡ Value n → n < out.state.top
+  pub node : (n : ℕ) → out.status ≡ Ok n → n < out.state.top
   pub answer : meaning heap' out ≡ test (fits v) 14 t (give v) st.fuel
 
 ----------------------------------------------------------------
@@ -117,14 +116,14 @@ arguments_of code heap slots st sc t room k count ys next =
     (next vs))
 
 -- `next` with the values in the slots from ancilla argument `k` on, where `m` is the slot of the first argument; or the refusal
-unfoldable pub placed_of : List ℕ → List ℕ → ℕ → ℕ → ℕ → ℕ → Status → (List Val → Val → Run Val) → Res Val
-placed_of heap slots m k count fuel (Value node) next = next (values_at heap slots (m + k) (count - k)) (value_at heap (get_or slots (m + count) 0)) fuel
-placed_of heap slots m k count fuel (Refused why) next = refusal_of why
+unfoldable pub placed_of : List ℕ → List ℕ → ℕ → ℕ → ℕ → ℕ → Result ℕ Refusal → (List Val → Val → Run Val) → Res Val
+placed_of heap slots m k count fuel (Ok node) next = next (values_at heap slots (m + k) (count - k)) (value_at heap (get_or slots (m + count) 0)) fuel
+placed_of heap slots m k count fuel (Err why) next = refusal_of why
 
 -- The arguments stand in the slots behind the caller's scope, which is as it was.
 pub record Places (code heap heap' slots slots' : List ℕ) (st : Machine) (sc : Scope) (t room k count : ℕ) (out : Out) : Type 0 where
   pub ran : RanForward 0 heap heap' (sc.base + sc.n) slots slots' st out (λ ys. meaning heap' out)
-  pub held : (n : ℕ) → out.status ≡ Value n → (j : ℕ) → k ≤ j → j ≤ count → get_or slots' (sc.base + sc.n + j) 0 < out.state.top
+  pub held : (n : ℕ) → out.status ≡ Ok n → (j : ℕ) → k ≤ j → j ≤ count → get_or slots' (sc.base + sc.n + j) 0 < out.state.top
   pub answer : (ys : List TypeEntry) (next : List Val → Val → Run Val)
       → arguments_of code heap slots st sc t room k count ys next ≡ placed_of heap' slots' (sc.base + sc.n) k count out.state.fuel out.status next
 
@@ -140,7 +139,7 @@ pub record Calls (code : List ℕ) (t k count : ℕ) : Type 0 where
 -- What a roll holds is the answer (rules/specs/Machine, `on_roll`); it was within the limit before.
 pub record Unrolls (heap : List ℕ) (st : Machine) (node : ℕ) (r : Out) : Type 0 where
   pub state : r.state ≡ st
-  pub below : (n : ℕ) → r.status ≡ Value n → n < st.top
+  pub below : (n : ℕ) → r.status ≡ Ok n → n < st.top
   pub answer : (t : ℕ) → meaning heap r ≡ on_roll (value_at heap node) (λ v. test (fits v) 14 t (give v)) st.fuel
 
 -- The same of the answer `r`, whatever the machine is that the node is of.
@@ -155,12 +154,12 @@ pub record CheckReady (code heap st : List ℕ) (scope t out : ℕ) : Type 0 whe
   pub graph : Heap heap (machine_of st).top
   pub small : (machine_of st).top ≤ unknown
   pub ancillae : AncillaeIn st scope
-  pub node : (n : ℕ) → status_of out ≡ Value n → n < (machine_of st).top
+  pub node : (n : ℕ) → status_of out ≡ Ok n → n < (machine_of st).top
 
 -- The right branch of case `t` gave `out`, with `n` variables in scope around the case; `r` is the answer, with first match tested (15).
 pub record Checks (code heap slots : List ℕ) (base q n t : ℕ) (out r : Out) : Type 0 where
   pub state : r.state ≡ out.state
-  pub node : (at : ℕ) → r.status ≡ Value at → out.status ≡ Value at
+  pub node : (at : ℕ) → r.status ≡ Ok at → out.status ≡ Ok at
   pub answer : (ys : List TypeEntry) → meaning heap r
       ≡ after (meaning heap out) (λ w. test (first_match (ancillae_at heap slots base q) n (tree_in code ys (first_in code t))
       (tree_in code ys (second_in code t)) w) 15 t (give w))

@@ -5,21 +5,24 @@
 // Placing, Calling.
 ghost use Rattle.std.specs.Prelude.{◌≡◌, ◌+◌, ◌≤◌, ◌<◌};
 ghost use Rattle.program.specs.Kinds.{pair_kind, let_kind, let_pair_kind, case_kind, call_kind, unroll_kind};
+ghost use Rattle.valuegraph.specs.Nodes.{kind_number};
 ghost use Rattle.decoded.specs.Rows.{kind_in};
 ghost use Rattle.scopes.specs.Slots.{machine_of};
 ghost use Rattle.yields.specs.Yields.{Wraps};
 ghost use Rattle.forward.specs.Ready.{ReadyIn, Evaluates, EvaluatesUnder, Steps, PlacesIn, Calls};
 
 use crate::outcomes;
-use crate::outcomes::{FUEL, HEIGHT, STOPPED, STUCK};
+use crate::outcomes::{Refusal, STOPPED};
+use decoded::rows;
 use decoded::rows::CODE;
-use decoded::{kinds, rows};
+use program::kinds::TermKind;
 use scopes::state::STATE;
 use scopes::{slots, state};
 use valuegraph::nodes;
+use valuegraph::nodes::Kind;
 
 // Term t, in a scope, with height `room` left.
-#[cycle(call_choose_eval_let_one_let_two_pair_place_under_unroll_wrap)]
+#[cycle(eval)]
 pub fn eval(
     code: &[u16; CODE],
     ws: &mut [u8],
@@ -32,31 +35,29 @@ pub fn eval(
     ensures { Evaluates code.now ws.old ws.new st.old st.new scope t room result }
 {
     if state::fuel(st) == 0 {
-        return outcomes::refuse(FUEL, t);
+        return outcomes::refuse(Refusal::Fuel(t));
     }
     if room == 0 {
-        return outcomes::refuse(HEIGHT, t);
+        return outcomes::refuse(Refusal::Height(t));
     }
     state::spend(st);
-    match rows::kind_of(code, t) {
-        kinds::VARIABLE => outcomes::variable(ws, st, scope, rows::first_of(code, t)),
-        kinds::UNIT => outcomes::make_unit(ws, st, t),
-        kinds::INL => wrap(code, ws, st, scope, t, room, nodes::INL),
-        kinds::INR => wrap(code, ws, st, scope, t, room, nodes::INR),
-        kinds::PAIR => pair(code, ws, st, scope, t, room),
-        kinds::LET => let_one(code, ws, st, scope, t, room),
-        kinds::LET_PAIR => let_two(code, ws, st, scope, t, room),
-        kinds::CASE => choose(code, ws, st, scope, t, room),
-        kinds::CALL => call(code, ws, st, scope, t, room),
-        kinds::ROLL => wrap(code, ws, st, scope, t, room, nodes::ROLL),
-        kinds::UNROLL => unroll(code, ws, st, scope, t, room),
-        // never met: there is no other kind
-        _ => outcomes::refuse(STUCK, 0),
+    match rows::term_kind(code, t) {
+        TermKind::Variable => outcomes::variable(ws, st, scope, rows::first_of(code, t)),
+        TermKind::Unit => outcomes::make_unit(ws, st, t),
+        TermKind::Inl => wrap(code, ws, st, scope, t, room, Kind::Inl),
+        TermKind::Inr => wrap(code, ws, st, scope, t, room, Kind::Inr),
+        TermKind::Pair => pair(code, ws, st, scope, t, room),
+        TermKind::Let => let_one(code, ws, st, scope, t, room),
+        TermKind::LetPair => let_two(code, ws, st, scope, t, room),
+        TermKind::Case => choose(code, ws, st, scope, t, room),
+        TermKind::Call => call(code, ws, st, scope, t, room),
+        TermKind::Roll => wrap(code, ws, st, scope, t, room, Kind::Roll),
+        TermKind::Unroll => unroll(code, ws, st, scope, t, room),
     }
 }
 
 // Term t in the scope with one variable more.
-#[cycle(call_choose_eval_let_one_let_two_pair_place_under_unroll_wrap)]
+#[cycle(eval)]
 fn under(
     code: &[u16; CODE],
     ws: &mut [u8],
@@ -75,7 +76,7 @@ fn under(
 }
 
 // inl, inr and roll, by the kind of node that they make.
-#[cycle(call_choose_eval_let_one_let_two_pair_place_under_unroll_wrap)]
+#[cycle(eval)]
 fn wrap(
     code: &[u16; CODE],
     ws: &mut [u8],
@@ -83,10 +84,10 @@ fn wrap(
     scope: u64,
     t: u16,
     room: u16,
-    kind: u8,
+    kind: Kind,
 ) -> u32
     requires ready_in { ReadyIn 1 0 code.now ws.old st.old scope t room }
-    requires wraps { Wraps (kind_in code.now t) kind }
+    requires wraps { Wraps (kind_in code.now t) (kind_number kind) }
     ensures { Steps code.now ws.old ws.new st.old st.new scope t room result }
 {
     let part = rows::second_of(code, t);
@@ -97,7 +98,7 @@ fn wrap(
     outcomes::make_single(ws, st, t, kind, r)
 }
 
-#[cycle(call_choose_eval_let_one_let_two_pair_place_under_unroll_wrap)]
+#[cycle(eval)]
 fn pair(
     code: &[u16; CODE],
     ws: &mut [u8],
@@ -124,7 +125,7 @@ fn pair(
 }
 
 // let x = e in b
-#[cycle(call_choose_eval_let_one_let_two_pair_place_under_unroll_wrap)]
+#[cycle(eval)]
 fn let_one(
     code: &[u16; CODE],
     ws: &mut [u8],
@@ -147,7 +148,7 @@ fn let_one(
 }
 
 // let (x, y) = e in b
-#[cycle(call_choose_eval_let_one_let_two_pair_place_under_unroll_wrap)]
+#[cycle(eval)]
 fn let_two(
     code: &[u16; CODE],
     ws: &mut [u8],
@@ -166,9 +167,8 @@ fn let_two(
     if STOPPED <= r {
         return r;
     }
-    let kind = nodes::kind_of(ws, r);
-    if kind != 3 {
-        return outcomes::refuse(STUCK, 0);
+    if nodes::kind_of(ws, r) != Kind::Pair {
+        return outcomes::refuse(Refusal::Stuck);
     }
     let x = nodes::left_of(ws, r);
     let y = nodes::right_of(ws, r);
@@ -178,7 +178,7 @@ fn let_two(
 }
 
 // case e of inl x ⇒ b, inr y ⇒ b'
-#[cycle(call_choose_eval_let_one_let_two_pair_place_under_unroll_wrap)]
+#[cycle(eval)]
 fn choose(
     code: &[u16; CODE],
     ws: &mut [u8],
@@ -197,21 +197,18 @@ fn choose(
     if STOPPED <= r {
         return r;
     }
-    let kind = nodes::kind_of(ws, r);
     let part = nodes::left_of(ws, r);
-    if kind == nodes::INL {
-        let left = rows::second_of(code, t);
-        return under(code, ws, st, scope, part, left, below);
+    match nodes::kind_of(ws, r) {
+        Kind::Inl => under(code, ws, st, scope, part, rows::second_of(code, t), below),
+        Kind::Inr => {
+            let out = under(code, ws, st, scope, part, rows::third_of(code, t), below);
+            outcomes::first_match(code, ws, st, scope, t, out)
+        }
+        _ => outcomes::refuse(Refusal::Stuck),
     }
-    if kind == nodes::INR {
-        let right = rows::third_of(code, t);
-        let out = under(code, ws, st, scope, part, right, below);
-        return outcomes::first_match(code, ws, st, scope, t, out);
-    }
-    outcomes::refuse(STUCK, 0)
 }
 
-#[cycle(call_choose_eval_let_one_let_two_pair_place_under_unroll_wrap)]
+#[cycle(eval)]
 fn unroll(
     code: &[u16; CODE],
     ws: &mut [u8],
@@ -234,7 +231,7 @@ fn unroll(
 
 // The arguments of call t from number k to number `end`, which is the dynamic one: each is evaluated in the caller's scope, and placed behind it
 // once the others are, since their evaluation has its own variables there.
-#[cycle(call_choose_eval_let_one_let_two_pair_place_under_unroll_wrap)]
+#[cycle(eval)]
 fn place(
     code: &[u16; CODE],
     ws: &mut [u8],
@@ -266,7 +263,7 @@ fn place(
 }
 
 // A call: its arguments are the scope of the function's body.
-#[cycle(call_choose_eval_let_one_let_two_pair_place_under_unroll_wrap)]
+#[cycle(eval)]
 fn call(
     code: &[u16; CODE],
     ws: &mut [u8],
@@ -279,7 +276,7 @@ fn call(
     requires t_value { kind_in code.now t ≡ call_kind }
     ensures { Steps code.now ws.old ws.new st.old st.new scope t room result }
 {
-    let count = octets::wide_index(rows::third_of(code, t));
+    let count = usize::from(rows::third_of(code, t));
     let r = place(code, ws, st, scope, t, room, 0, count);
     if STOPPED <= r {
         return r;

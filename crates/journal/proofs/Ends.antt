@@ -21,8 +21,7 @@ use package.Rattle.calls.specs.Journal as journal
 use package.Rattle.calls.proofs.Journal.Fields.{there, provided_true, length-field, opened-sound}
 use package.Rattle.calls.specs.Fields.{field_head}
 use package.Rattle.valuebytes.specs.Ends.{is_some, is_value, counted}
-use package.Rattle.valuebytes.specs.declared.scan.Counted.TheVariants as count
-use package.Rattle.journal.specs.declared.places.Field.TheVariants as field
+use Rattle.std.specs.Prelude.{Some, None}
 use package.Rattle.journal.specs.Places.{held_field, entry_field, end_of}
 
 ----------------------------------------------------------------
@@ -36,7 +35,7 @@ opened-few tag (t ∷ a ∷ []) h = refl
 opened-few tag (t ∷ a ∷ b ∷ ys) h = absurd (omega arith)
 
 module _ (tag : ℕ) (xs : List ℕ) (at : ℕ) where
-  pub end_short : length xs - at < field_head → field.Malformed ≡ end_of at (opened tag (drop at xs))
+  pub end_short : length xs - at < field_head → None ≡ end_of at (opened tag (drop at xs))
   unfolding end_of
   end_short h = ap (end_of at) (sym (opened-few tag (drop at xs) (omega (arith, length-drop at xs))))
 
@@ -60,19 +59,19 @@ module _ (tag : ℕ) (xs : List ℕ) (at : ℕ) where
   opened-tested h =
       ap (opened tag) (three h) ∙ ap (λ n. tested (eqb (get_or xs at 0) tag) (leb (get16 xs (at + 1)) n)) (length-drop (at + field_head) xs)
 
-  pub end-other : field_head ≤ length xs - at → (get_or xs at 0 ≡ tag → ⊥) → field.Malformed ≡ end_of at (opened tag (drop at xs))
+  pub end-other : field_head ≤ length xs - at → (get_or xs at 0 ≡ tag → ⊥) → None ≡ end_of at (opened tag (drop at xs))
   unfolding end_of tested provided ◌>>=◌
   end-other h d = ap (end_of at) (sym (opened-tested h ∙ ap (λ b. tested b (leb (get16 xs (at + 1)) (length xs - (at + field_head)))) (ne_eqb (get_or xs at 0) tag d)))
 
-  pub end-cut : field_head ≤ length xs - at → get_or xs at 0 ≡ tag → length xs - (at + field_head) < get16 xs (at + 1) → field.Malformed ≡ end_of at (opened tag (drop at xs))
+  pub end-cut : field_head ≤ length xs - at → get_or xs at 0 ≡ tag → length xs - (at + field_head) < get16 xs (at + 1) → None ≡ end_of at (opened tag (drop at xs))
   unfolding end_of tested provided ◌>>=◌
   end-cut h e l = ap (end_of at) (sym (opened-tested h ∙ ap₂ tested (eq-eqb (get_or xs at 0) tag e) (lt-leb (get16 xs (at + 1)) (length xs - (at + field_head)) l)))
 
   pub end_whole : field_head ≤ length xs - at → get_or xs at 0 ≡ tag → get16 xs (at + 1) ≤ length xs - (at + field_head)
-      → field.To (at + field_head + get16 xs (at + 1)) ≡ end_of at (opened tag (drop at xs))
+      → Some (at + field_head + get16 xs (at + 1)) ≡ end_of at (opened tag (drop at xs))
   unfolding end_of tested provided ◌>>=◌
   end_whole h e l =
-      ap (λ n. field.To (at + field_head + n)) (sym (length-take-le (get16 xs (at + 1)) (drop (at + field_head) xs) (omega (arith, length-drop (at + field_head) xs))))
+      ap (λ n. Some (at + field_head + n)) (sym (length-take-le (get16 xs (at + 1)) (drop (at + field_head) xs) (omega (arith, length-drop (at + field_head) xs))))
       ∙ ap (end_of at) (sym (opened-tested h ∙ ap₂ tested (eq-eqb (get_or xs at 0) tag e) (le-leb (get16 xs (at + 1)) (length xs - (at + field_head)) l)))
 
 ----------------------------------------------------------------
@@ -85,25 +84,22 @@ pub record Here (tag at end : ℕ) (xs : List ℕ) : Type 0 where
   pub place : end ≡ at + field_head + length (field).body
   pub bytes : drop at xs ≡ journal.field tag (field).body ++ (field).rest
 
-malformed≢to : {e : ℕ} → field.Malformed ≡ field.To e → ⊥
+malformed≢to : {e : ℕ} → None ≡ Some e → ⊥
 malformed≢to p = let z : ◌≡◌ {A = ℕ} 0 1 = cc in omega arith
 
-to_inj : {a b : ℕ} → field.To a ≡ field.To b → a ≡ b
+to_inj : {a b : ℕ} → Some a ≡ Some b → a ≡ b
 to_inj p = cc
 
 -- no end was found
-pub not_here : (at : ℕ) (o : Option Opened) → field.Malformed ≡ end_of at o → o ≡ none
+pub not_here : (at : ℕ) (o : Option Opened) → None ≡ end_of at o → o ≡ none
 unfolding end_of
 not_here at none p = refl
 not_here at (some f) p = absurd (malformed≢to p)
 
-pub is_here : (at end : ℕ) (o : Option Opened) → field.To end ≡ end_of at o → (f : Opened) × (o ≡ some f) × (end ≡ at + field_head + length f.body)
+pub is_here : (at end : ℕ) (o : Option Opened) → Some end ≡ end_of at o → (f : Opened) × (o ≡ some f) × (end ≡ at + field_head + length f.body)
 unfolding end_of
 is_here at end none p = absurd (malformed≢to (sym p))
 is_here at end (some f) p = (f, refl, to_inj p)
-
-pub is_further : (at end : ℕ) (o : Option Opened) → field.To end ≡ end_of at o → at < end
-is_further at end o p = given (is_here at end o p) λ (f, is, place). omega (arith, place)
 
 -- what the prover knows of a slice of bytes
 pub are_bytes : (xs : List ℕ) → ((i : ℕ) → Fits w8 (get_or xs i 0)) → AreBytes xs
@@ -113,7 +109,7 @@ are_bytes xs h i = (h i).fits
 pub bytes_from : (xs : List ℕ) (at : ℕ) → AreBytes xs → AreBytes (drop at xs)
 bytes_from xs at h = bytes-right (take at xs) (drop at xs) (rw (take-append-drop at xs) h)
 
-pub here : (tag at end : ℕ) (xs : List ℕ) → AreBytes xs → field.To end ≡ end_of at (opened tag (drop at xs)) → Here tag at end xs
+pub here : (tag at end : ℕ) (xs : List ℕ) → AreBytes xs → Some end ≡ end_of at (opened tag (drop at xs)) → Here tag at end xs
 here tag at end xs h p = given (is_here at end (opened tag (drop at xs)) p) λ (f, is, place).
     record { field = f; is = is; place = place; bytes = opened-sound tag (drop at xs) (bytes_from xs at h) is }
 
@@ -156,19 +152,19 @@ pub no_value : (o : Option Val) → is_some o ≡ false → o ≡ none
 no_value none e = refl
 no_value (some v) e = absurd (false≢true (sym e))
 
-pub held_missing : (xs : List ℕ) → field.Malformed ≡ end_of 0 (opened held_tag xs) → field.Malformed ≡ end_of 0 (held_field xs)
+pub held_missing : (xs : List ℕ) → None ≡ end_of 0 (opened held_tag xs) → None ≡ end_of 0 (held_field xs)
 unfolding held_field end_of ◌>>=◌
 held_missing xs p = ap (end_of 0) (sym (ap (λ o. o >>= λ f. value f.body >>= λ v. some f) (not_here 0 (opened held_tag xs) p)))
 
-module _ (xs : List ℕ) (bytes : AreBytes xs) (end : ℕ) (p : field.To end ≡ end_of 0 (opened held_tag xs)) (b : Bool)
+module _ (xs : List ℕ) (bytes : AreBytes xs) (end : ℕ) (p : Some end ≡ end_of 0 (opened held_tag xs)) (b : Bool)
     (told : b ≡ is_value (take (end - field_head) (drop field_head xs))) where
-  pub held_whole : b ≡ true → field.To end ≡ end_of 0 (held_field xs)
+  pub held_whole : b ≡ true → Some end ≡ end_of 0 (held_field xs)
   unfolding held_field end_of
   held_whole e = given (here held_tag 0 end xs bytes p) λ h.
       given (some_value (value h.field.body) (ap is_value (sym (body-part h 0 (omega arith))) ∙ sym told ∙ e)) λ (v, is).
-      ap field.To h.place ∙ ap (end_of 0) (sym (there _ h.is (there _ is refl)))
+      ap Some h.place ∙ ap (end_of 0) (sym (there _ h.is (there _ is refl)))
 
-  pub held-broken : b ≡ false → field.Malformed ≡ end_of 0 (held_field xs)
+  pub held-broken : b ≡ false → None ≡ end_of 0 (held_field xs)
   unfolding held_field end_of ◌>>=◌
   held-broken e = given (here held_tag 0 end xs bytes p) λ h.
       ap (end_of 0) (sym (there _ h.is (ap (λ o. o >>= λ v. some h.field) (no_value (value h.field.body) (ap is_value (sym (body-part h 0 (omega arith))) ∙ sym told ∙ e)))))
@@ -176,26 +172,26 @@ module _ (xs : List ℕ) (bytes : AreBytes xs) (end : ℕ) (p : field.To end ≡
 ----------------------------------------------------------------
 -- An entry's field
 
-some_values : (o : Option (List Val)) {n : ℕ} → count.Values n ≡ counted o → (vs : List Val) × (o ≡ some vs)
+some_values : (o : Option (List Val)) {n : ℕ} → Some n ≡ counted o → (vs : List Val) × (o ≡ some vs)
 unfolding counted
 some_values none e = absurd (let z : ◌≡◌ {A = ℕ} 0 1 = cc in omega arith)
 some_values (some vs) e = (vs, refl)
 
-no-values : (o : Option (List Val)) → count.Malformed ≡ counted o → o ≡ none
+no-values : (o : Option (List Val)) → None ≡ counted o → o ≡ none
 unfolding counted
 no-values none e = refl
 no-values (some vs) e = absurd (let z : ◌≡◌ {A = ℕ} 0 1 = cc in omega arith)
 
-pub entry_missing : (xs : List ℕ) (at : ℕ) → field.Malformed ≡ end_of at (opened entry_tag xs) → field.Malformed ≡ end_of at (entry_field xs)
+pub entry_missing : (xs : List ℕ) (at : ℕ) → None ≡ end_of at (opened entry_tag xs) → None ≡ end_of at (entry_field xs)
 unfolding entry_field end_of ◌>>=◌
 entry_missing xs at p = ap (end_of at) (sym (ap (λ o. o >>= λ f. read_entry f.body >>= λ e. some f) (not_here at (opened entry_tag xs) p)))
 
-module _ (xs : List ℕ) (bytes : AreBytes xs) (at end : ℕ) (p : field.To end ≡ end_of at (opened entry_tag (drop at xs))) where
-  unread : (h : Here entry_tag at end xs) → read_entry h.field.body ≡ none → field.Malformed ≡ end_of at (entry_field (drop at xs))
+module _ (xs : List ℕ) (bytes : AreBytes xs) (at end : ℕ) (p : Some end ≡ end_of at (opened entry_tag (drop at xs))) where
+  unread : (h : Here entry_tag at end xs) → read_entry h.field.body ≡ none → None ≡ end_of at (entry_field (drop at xs))
   unfolding entry_field end_of ◌>>=◌
   unread h e = ap (end_of at) (sym (there _ h.is (ap (λ o. o >>= λ e. some h.field) e)))
 
-  pub entry-short : end - at < entry_bytes → field.Malformed ≡ end_of at (entry_field (drop at xs))
+  pub entry-short : end - at < entry_bytes → None ≡ end_of at (entry_field (drop at xs))
   unfolding read_entry provided ◌>>=◌
   entry-short l = given (here entry_tag at end xs bytes p) λ h.
       unread h (rw (read_entry, lt-leb entry_head (length h.field.body) (omega (arith, h.place))))
@@ -206,15 +202,15 @@ module _ (xs : List ℕ) (bytes : AreBytes xs) (at end : ℕ) (p : field.To end 
     values-behind h =
         ap (λ n. take (end - n) (drop n xs)) (let z : at + entry_bytes ≡ at + field_head + entry_head = omega arith in z) ∙ body-part h entry_head (omega (arith, h.place))
 
-    pub entry-broken : count.Malformed ≡ counted (ancillae (take (end - (at + entry_bytes)) (drop (at + entry_bytes) xs))) → field.Malformed ≡ end_of at (entry_field (drop at xs))
+    pub entry-broken : None ≡ counted (ancillae (take (end - (at + entry_bytes)) (drop (at + entry_bytes) xs))) → None ≡ end_of at (entry_field (drop at xs))
     unfolding read_entry provided ◌>>=◌
     entry-broken q = given (here entry_tag at end xs bytes p) λ h.
         unread h (there _ (provided_true (le-leb entry_head (length h.field.body) (omega (arith, h.place))))
         (ap (λ o. o >>= λ vs. some (record { function = get16 h.field.body 0; steps = get32 h.field.body 2; ancillae = vs }))
         (ap ancillae (sym (values-behind h)) ∙ no-values _ q)))
 
-    pub entry_whole : (n : ℕ) → count.Values n ≡ counted (ancillae (take (end - (at + entry_bytes)) (drop (at + entry_bytes) xs))) → field.To end ≡ end_of at (entry_field (drop at xs))
+    pub entry_whole : (n : ℕ) → Some n ≡ counted (ancillae (take (end - (at + entry_bytes)) (drop (at + entry_bytes) xs))) → Some end ≡ end_of at (entry_field (drop at xs))
     unfolding entry_field end_of read_entry
     entry_whole n q = given (here entry_tag at end xs bytes p) λ h. given (some_values (ancillae (take (end - (at + entry_bytes)) (drop (at + entry_bytes) xs))) q) λ (vs, is).
-        ap field.To h.place ∙ ap (end_of at) (sym (there _ h.is (there _
+        ap Some h.place ∙ ap (end_of at) (sym (there _ h.is (there _
         (there _ (provided_true (le-leb entry_head (length h.field.body) (omega (arith, h.place)))) (there _ (ap ancillae (sym (values-behind h)) ∙ is) refl)) refl)))

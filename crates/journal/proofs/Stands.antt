@@ -19,8 +19,8 @@ use package.Rattle.calls.proofs.Journal.Entries.{WritableEntries, entry_fields_s
 use package.Rattle.calls.proofs.Journal.Buffers.{Writable, length_fields, written_read}
 use package.Rattle.calls.specs.Fields.{field_head}
 use package.Rattle.journal.specs.declared.places.Places.{Places}
-use package.Rattle.journal.specs.declared.places.Survey.{Survey}
-use package.Rattle.journal.specs.declared.places.Survey.TheVariants as survey
+use package.Rattle.journal.specs.declared.parts.Standing as parts
+use Rattle.std.specs.Prelude.{Option as Found, Some, None}
 use package.Rattle.journal.specs.Places.{or_else, no_newest, newest_of, journal_in, places_of, survey_of, Surveyed, Stands}
 
 ----------------------------------------------------------------
@@ -33,22 +33,22 @@ pub record Standing (pl : Places) (xs : List ℕ) (J : Journal) : Type 0 where
   pub writable : Writable J
   pub within : length (fields J) ≤ length xs
 
-form≢malformed : {pl : Places} → survey.Form pl ≡ survey.Malformed → ⊥
+form≢malformed : {pl : Places} → Some pl ≡ None → ⊥
 form≢malformed p = let z : ◌≡◌ {A = ℕ} 0 1 = cc in omega arith
 
-form_inj : {a b : Places} → survey.Form a ≡ survey.Form b → a ≡ b
+form_inj : {a b : Places} → Some a ≡ Some b → a ≡ b
 form_inj p = cc
 
 -- a survey whose answer was found out
-pub surveyed_as : {xs : List ℕ} {r r' : Survey} → Surveyed r xs → r ≡ r' → Surveyed r' xs
+pub surveyed_as : {xs : List ℕ} {r r' : Found Places} → Surveyed r xs → r ≡ r' → Surveyed r' xs
 surveyed_as {xs} s e = subst (λ r. Surveyed r xs) e s
 
 -- what is not in form is no journal
-pub unformed : (xs : List ℕ) → Surveyed survey.Malformed xs → read_journal xs ≡ none
+pub unformed : (xs : List ℕ) → Surveyed None xs → read_journal xs ≡ none
 unfolding survey_of
 unformed xs s = go (read_journal xs) s.answer
   where
-    go : (o : Option Journal) → survey.Malformed ≡ survey_of o → o ≡ none
+    go : (o : Option Journal) → None ≡ survey_of o → o ≡ none
     go none p = refl
     go (some J) p = absurd (form≢malformed (sym p))
 
@@ -217,3 +217,13 @@ module _ {pl : Places} {xs : List ℕ} {J : Journal} (s : Standing pl xs J) wher
     ancillae_are =
         ap (take (pl.end - (pl.newest + entry_bytes))) (sym (drop-drop entry_bytes pl.newest xs) ∙ ap (drop entry_bytes) behind_older)
         ∙ take_at (encode_all last.ancillae) zeros (pl.end - (pl.newest + entry_bytes)) (omega (arith, newest-length))
+
+----------------------------------------------------------------
+-- As the code holds a journal in form
+
+-- the places in order
+pub in_order : (s : parts.Standing) → (field_head ≤ s.places.held) × (s.places.held ≤ s.places.newest) × (s.places.newest ≤ s.places.end) × (s.places.end ≤ length s.journal.now)
+in_order s = ranges (standing _ _ s.in_form)
+
+pub newest_within : (s : parts.Standing) → 0 < s.places.count → s.places.newest + entry_bytes ≤ s.places.end
+newest_within s h = newest-room (standing _ _ s.in_form) h

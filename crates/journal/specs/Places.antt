@@ -1,6 +1,6 @@
 -- Where the fields of a journal stand, and what the test of its form answers (section 5; section 4, row Journal: refusal 18).
 -- Laws: proofs/Ends, proofs/Walks, proofs/Stands.
-use Rattle.std.specs.Prelude.{ℕ, ◌+◌, ◌≡◌, List, [], length}
+use Rattle.std.specs.Prelude.{ℕ, ◌+◌, ◌≡◌, List, [], length, Option as Found, Some, None}
 use Rattle.std.proofs.Math.Option.{Option, none, some}
 use package.Rattle.octets.specs.Numbers.{AreBytes}
 use package.Rattle.rules.specs.Val.{unit, size}
@@ -9,10 +9,6 @@ use package.Rattle.calls.specs.Journal.{Entry, Journal, held_tag, entry_tag, fie
 use package.Rattle.calls.specs.Conversions.{Newest, newest}
 use package.Rattle.calls.specs.Fields.{field_head}
 use package.Rattle.journal.specs.declared.places.Places.{Places}
-use package.Rattle.journal.specs.declared.places.Survey.{Survey}
-use package.Rattle.journal.specs.declared.places.Survey.TheVariants as survey
-use package.Rattle.journal.specs.declared.places.Field.{Field}
-use package.Rattle.journal.specs.declared.places.Field.TheVariants as field
 
 -- what is there, or something else
 abbrev pub or_else : {A : Type 0} → A → Option A → A
@@ -37,9 +33,9 @@ entry_field xs = do
   some f
 
 -- where a field that starts at `at` ends
-unfoldable pub end_of : ℕ → Option Opened → Field
-end_of at none = field.Malformed
-end_of at (some f) = field.To (at + field_head + length f.body)
+unfoldable pub end_of : ℕ → Option Opened → Found ℕ
+end_of at none = None
+end_of at (some f) = Some (at + field_head + length f.body)
 
 ----------------------------------------------------------------
 -- The form
@@ -64,15 +60,15 @@ places_of J = record {
   end = length (fields J);
 }
 
-unfoldable pub survey_of : Option Journal → Survey
-survey_of none = survey.Malformed
-survey_of (some J) = survey.Form (places_of J)
+unfoldable pub survey_of : Option Journal → Found Places
+survey_of none = None
+survey_of (some J) = Some (places_of J)
 
 -- what the test of the form answers of a buffer; that the buffer is bytes goes with it, so that what was read is what is written
-pub record Surveyed (r : Survey) (xs : List ℕ) : Type 0 where
+pub record Surveyed (r : Found Places) (xs : List ℕ) : Type 0 where
   pub answer : r ≡ survey_of (read_journal xs)
   pub bytes : AreBytes xs
 
 -- the buffer has the form, and its fields stand so
 abbrev pub Stands : Places → List ℕ → Type 0
-Stands pl xs = Surveyed (survey.Form pl) xs
+Stands pl xs = Surveyed (Some pl) xs

@@ -3,119 +3,80 @@ ghost use Rattle.std.specs.Prelude.{◌≡◌, ◌≤◌, length, drop};
 ghost use Rattle.calls.specs.Journal.{opened, all_zero};
 ghost use Rattle.journal.specs.Places.{held_field, entry_field, end_of, Surveyed};
 
-use crate::places::{ENTRY_BYTES, ENTRY_TAG, Field, HELD_TAG, Places, Survey};
+use crate::places::{ENTRY_BYTES, ENTRY_TAG, HELD_TAG, Places};
 use program::fields::FIELD_HEAD;
 use rules::MAX_CONVERSIONS;
+use valuebytes::scan;
 
-// Where the field of this tag at a place ends: tag, two-byte length, body.
-fn field_end(journal: &[u8], at: usize, tag: u8) -> Field
+// Where the field of this tag at a place ends, if it stands there whole: tag, two-byte length, body.
+fn field_end(journal: &[u8], at: usize, tag: u8) -> Option<usize>
     requires { at ≤ length journal.now }
     ensures { result ≡ end_of at (opened tag (drop at journal.now)) }
 {
     if journal.len() - at < FIELD_HEAD {
-        return Field::Malformed;
+        return None;
     }
     if journal[at] != tag {
-        return Field::Malformed;
+        return None;
     }
-    let n = octets::wide_index(octets::read16(journal, at + 1));
+    let n = usize::from(octets::read16(journal, at + 1));
     let start = at + FIELD_HEAD;
     if journal.len() - start < n {
-        return Field::Malformed;
+        return None;
     }
-    Field::To(start + n)
+    Some(start + n)
 }
 
 // Where the held value's field ends: its body is one value within the limit.
-fn held_end(journal: &[u8]) -> Field
+fn held_end(journal: &[u8]) -> Option<usize>
     ensures { result ≡ end_of 0 (held_field journal.now) }
 {
-    let field = field_end(journal, 0, HELD_TAG);
-    let Field::To(end) = field else {
-        return Field::Malformed;
-    };
-    let value = &journal[FIELD_HEAD..end];
-    let ok = valuebytes::scan::one_value(value);
-    if ok {
-        return Field::To(end);
+    let end = field_end(journal, 0, HELD_TAG)?;
+    if scan::one_value(&journal[FIELD_HEAD..end]) {
+        return Some(end);
     }
-    Field::Malformed
+    None
 }
 
 // Where a conversion's field ends: its body is a head, and whole values within the limit.
-fn entry_end(journal: &[u8], at: usize) -> Field
+fn entry_end(journal: &[u8], at: usize) -> Option<usize>
     requires { at ≤ length journal.now }
     ensures { result ≡ end_of at (entry_field (drop at journal.now)) }
 {
-    let field = field_end(journal, at, ENTRY_TAG);
-    let Field::To(end) = field else {
-        return Field::Malformed;
-    };
+    let end = field_end(journal, at, ENTRY_TAG)?;
     if end - at < ENTRY_BYTES {
-        return Field::Malformed;
+        return None;
     }
-    let from = at + ENTRY_BYTES;
-    let values = &journal[from..end];
-    let counted = valuebytes::scan::count_values(values);
-    let valuebytes::scan::Counted::Values(_) = counted else {
-        return Field::Malformed;
-    };
-    Field::To(end)
+    scan::count_values(&journal[at + ENTRY_BYTES..end])?;
+    Some(end)
 }
 
 // Are the bytes from a place on all zero?
 fn zero_from(journal: &[u8], at: usize) -> bool
+    requires { at ≤ length journal.now }
     ensures { result ≡ all_zero (drop at journal.now) }
 {
-    let mut i = at;
-    while i < journal.len() {
-        if journal[i] != 0 {
-            return false;
-        }
-        i += 1;
-    }
-    true
+    journal[at..].iter().all(|b| *b == 0)
 }
 
-// The form of a journal: the held value's field, those of at most so many conversions as may stand, while the next byte is not zero, then zeros.
-pub fn survey(journal: &[u8]) -> Survey
+// The form of a journal: the held value's field, those of at most so many conversions as may stand, then zeros. No field begins with a zero.
+pub fn survey(journal: &[u8]) -> Option<Places>
     ensures { Surveyed result journal.now }
 {
-    let head = held_end(journal);
-    let Field::To(held) = head else {
-        return Survey::Malformed;
-    };
+    let held = held_end(journal)?;
     let mut end = held;
     let mut newest = held;
-    let mut count: usize = 0;
-    while end < journal.len() {
-        if journal[end] == 0 {
-            let zeros = zero_from(journal, end);
-            if zeros {
-                return Survey::Form(Places {
-                    held,
-                    count,
-                    newest,
-                    end,
-                });
-            }
-            return Survey::Malformed;
+    for count in 0..MAX_CONVERSIONS + 1 {
+        if zero_from(journal, end) {
+            return Some(Places {
+                held,
+                count,
+                newest,
+                end,
+            });
         }
-        if MAX_CONVERSIONS <= count {
-            return Survey::Malformed;
-        }
-        let entry = entry_end(journal, end);
-        let Field::To(next) = entry else {
-            return Survey::Malformed;
-        };
         newest = end;
-        end = next;
-        count += 1;
+        end = entry_end(journal, end)?;
     }
-    Survey::Form(Places {
-        held,
-        count,
-        newest,
-        end,
-    })
+    None
 }

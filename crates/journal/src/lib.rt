@@ -8,7 +8,5 @@ pub mod places;
 pub mod form;
 // the held value, the conversions' fields and the newest conversion
 pub mod parts;
-// a run of bytes moved within a slice
-pub mod moves;
 // whether a new journal fits (20), and writing it in place
 pub mod writing;

@@ -30,17 +30,3 @@ pub struct Places {
     pub newest: usize,
     pub end: usize,
 }
-
-// What the test of the form answers.
-#[derive(Drop)]
-pub enum Survey {
-    Form(Places),
-    Malformed,
-}
-
-// Where one field ends, if it stands there whole.
-#[derive(Drop)]
-pub enum Field {
-    To(usize),
-    Malformed,
-}

@@ -9,7 +9,7 @@ ghost use Rattle.valuebytes.specs.Ends.{is_value, value_in, values_in};
 ghost use Rattle.journal.specs.Places.{Stands, journal_in};
 ghost use Rattle.journal.specs.Turns.{are_values, conversion, opens, converted, rolled_back};
 
-use crate::moves;
+use crate::parts::Standing;
 use crate::places::{ENTRY_BYTES, ENTRY_HEAD, ENTRY_TAG, FUNCTION_AT, HELD_TAG, Places, STEPS_AT};
 use program::fields::FIELD_HEAD;
 
@@ -24,26 +24,26 @@ pub fn fits_open(journal: &[u8], held: &[u8]) -> bool
     FIELD_HEAD + held.len() <= journal.len()
 }
 
-// And that convert leaves, whatever its function and steps?
-pub fn fits_convert(journal: &[u8], pl: Places, held: &[u8], ancillae: &[u8]) -> bool
-    requires stands { Stands pl journal.now }
-    requires held_value { (is_value held.now ≡ true) × (are_values ancillae.now ≡ true) }
-    ensures { (f s : ℕ) → result ≡ leb (length (fields (converted (journal_in journal.now) (value_in held.now) (conversion f s (values_in ancillae.now))))) (length journal.now) }
-{
-    let from = pl.held;
-    let to = pl.end;
-    BOTH_HEADS + held.len() + (to - from) + ancillae.len() <= journal.len()
-}
+impl<'a> Standing<'a> {
+    // And that convert leaves, whatever its function and steps?
+    #[tactic(auto, using(crate::proofs::Stands::in_order))]
+    pub fn fits_convert(&self, held: &[u8], ancillae: &[u8]) -> bool
+        requires { (is_value held.now ≡ true) × (are_values ancillae.now ≡ true) }
+        ensures { (f s : ℕ) → result ≡ leb (length (fields (converted (journal_in self.now.journal.now) (value_in held.now) (conversion f s (values_in ancillae.now))))) (length self.now.journal.now) }
+    {
+        let standing = self.places.end - self.places.held;
+        BOTH_HEADS + held.len() + standing + ancillae.len() <= self.journal.len()
+    }
 
-// And that rollback leaves?
-pub fn fits_rollback(journal: &[u8], pl: Places, held: &[u8]) -> bool
-    requires stands { Stands pl journal.now }
-    requires held_value { is_value held.now ≡ true }
-    ensures { result ≡ leb (length (fields (rolled_back (journal_in journal.now) (value_in held.now)))) (length journal.now) }
-{
-    let from = pl.held;
-    let to = pl.newest;
-    FIELD_HEAD + held.len() + (to - from) <= journal.len()
+    // And that rollback leaves?
+    #[tactic(auto, using(crate::proofs::Stands::in_order, crate::proofs::Turns::is_value_lem))]
+    pub fn fits_rollback(&self, held: &[u8]) -> bool
+        requires { is_value held.now ≡ true }
+        ensures { result ≡ leb (length (fields (rolled_back (journal_in self.now.journal.now) (value_in held.now)))) (length self.now.journal.now) }
+    {
+        let older = self.places.newest - self.places.held;
+        FIELD_HEAD + held.len() + older <= self.journal.len()
+    }
 }
 
 // A field's tag and the length of its body.
@@ -70,7 +70,7 @@ fn set_held(journal: &mut [u8], from: usize, to: usize, held: &[u8])
     requires from_in_bounds { (field_head + length held.now + (to - from) ≤ length journal.old) × (length held.now < 65536) }
     ensures { journal.new ≡ pasted journal.old 0 (field held_tag held.now ++ take (to - from) (drop from journal.old)) }
 {
-    moves::shift(journal, from, FIELD_HEAD + held.len(), to - from);
+    journal.copy_within(from..to, FIELD_HEAD + held.len());
     put_held(journal, held);
 }
 
@@ -104,6 +104,7 @@ pub fn write_open(journal: &mut [u8], held: &[u8])
 }
 
 // The journal that convert leaves: the new held value, and one conversion more.
+// Kept functions of a journal and its places, and no methods of Standing: they write the bytes, and a Standing only reads them.
 pub fn write_convert(
     journal: &mut [u8],
     pl: Places,

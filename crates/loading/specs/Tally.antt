@@ -1,16 +1,17 @@
 -- The tally of a check (02, F-4): what is claimed of the counts of type nodes that loading a program makes.
-use Rattle.std.specs.Prelude.{ℕ, ◌≡◌, List, []}
+use Rattle.std.specs.Prelude.{ℕ, ◌≡◌, List, [], Result}
 use package.Rattle.rules.specs.Term.{Program}
 use package.Rattle.calls.specs.Answer.{Answer, accepted, refused}
 use package.Rattle.calls.specs.Fields.{Layout, layout}
 use package.Rattle.calls.specs.Entries.{entries_at}
 use package.Rattle.calls.specs.Load.{load}
 use package.Rattle.entries.specs.Tally.{no_counts, Tallied, NamedCounted}
-use package.Rattle.loading.specs.declared.Loaded.{Loaded}
+use package.Rattle.answers.specs.declared.Refusal.{Refusal}
+use package.Rattle.program.specs.declared.fields.Counts.{Counts}
 use package.Rattle.loading.specs.declared.TalliedLoad.{TalliedLoad}
 
 -- an answer of a check in which nothing is counted
-pub record Untallied (r : TalliedLoad) (l : Loaded) : Type 0 where
+pub record Untallied (r : TalliedLoad) (l : Result Counts Refusal) : Type 0 where
   pub answer : r.loaded ≡ l
   pub tally_zero : r.tally.counted ≡ 0
   pub counts_none : r.counts ≡ no_counts

@@ -1,124 +1,122 @@
 // A program, read and typed: rows Field reading, Entries and Typing of document 01's section 4 (refusals 2 to 8), against
-// calls/specs/Load. The offsets of the entries' fields stand in buffers that the caller lends, so that a run finds them there, and the functions'
-// signatures in a table that it lends, so that admission asks it.
+// calls/specs/Load. What is loaded has the offsets of the entries' fields, so that a run finds them there, and the functions' signatures, so
+// that admission asks them.
 #![tactic(auto)]
 
-ghost use Rattle.std.specs.Prelude.{◌≤◌, ◌≡◌, length};
+ghost use Rattle.std.specs.Prelude.{◌≤◌, ◌≡◌, Err, List, ℕ, length};
+ghost use Rattle.entries.specs.Tested as tests;
 ghost use Rattle.entries.specs.Tested.{EntriesTested};
-ghost use Rattle.program.specs.Places.{Placed, Buffers};
+ghost use Rattle.program.specs.Places.{Placed, Buffers, answer_of};
 ghost use Rattle.program.specs.Signatures.{unsigned, SignaturesAre};
 ghost use Rattle.types.specs.Layout.{typing_bytes};
-ghost use Rattle.typing.specs.Checked.{Typeable};
-ghost use Rattle.loading.specs.Loading.{Examined, LoadMeans};
+ghost use Rattle.typing.specs.Checked as types;
+ghost use Rattle.loading.specs.Loading.{Refuses, Examined, LoadMeans};
+ghost use Rattle.loading.specs.Loads.{Loads};
 ghost use Rattle.loading.specs.Tally.{Untallied, TallyMeans};
 
+// the program that was loaded
+pub mod loaded;
+
+use crate::loaded::Loaded;
 use answers::Refusal;
 use entries::measures::Tally;
 use entries::testing;
-use entries::testing::Tested;
+use entries::testing::{EntryError, Tested};
+use program::entries::Entries;
 use program::fields;
-use program::fields::Counts;
-use rules::{MAX_FUNCTIONS, MAX_PARAMETERS, MAX_TYPES};
+use program::fields::{Counts, FieldError};
+use rules::{MAX_FUNCTIONS, MAX_PARAMETERS, MAX_TERMS, MAX_TYPES};
 use typing::functions;
+use typing::functions::TypingError;
 
-// What loading answers: how many entries of each tag are ready, at the fronts of the buffers, or refusal 2 to 8 at a field's offset.
-#[derive(Drop)]
-pub enum Loaded {
-    Ready(Counts),
-    Refused(Refusal),
+// The refusals of the three rows.
+// Kept: functions for `map_err` and no `impl From`, which the language refuses here, since neither type is of this crate.
+
+fn field_refusal(e: FieldError) -> Refusal
+    ensures { (types terms functions : List ℕ) → Refuses result (answer_of (Err e) types terms functions) }
+{
+    match e {
+        FieldError::Malformed(at) => Refusal::Field(at),
+        FieldError::Over(at) => Refusal::Limit(at),
+    }
 }
 
-// The same, with the tally of the counts of type nodes that were made, and beside it the table that keeps them (document 02, F-4).
-#[derive(Drop)]
+fn entry_refusal(e: EntryError) -> Refusal
+    ensures { Refuses result (tests.verdict_of (Err e)) }
+{
+    match e {
+        EntryError::BadReference(at) => Refusal::Reference(at),
+        EntryError::BadType(at) => Refusal::NamedType(at),
+    }
+}
+
+fn typing_refusal(e: TypingError) -> Refusal
+    ensures { Refuses result (types.verdict_of (Err e)) }
+{
+    match e {
+        TypingError::Differ(at) => Refusal::Mismatch(at),
+        TypingError::Unscoped(at) => Refusal::Scope(at),
+        TypingError::Misused(at) => Refusal::Usage(at),
+    }
+}
+
+// Row Entries, whose tests are made, then row Typing, which counts no nodes: it has the counts.
+fn judge(
+    entries: Entries,
+    counts: Counts,
+    tested: Tested,
+    nodes: &[u16; MAX_TYPES],
+    ws: &mut [u8],
+) -> Result<Counts, Refusal>
+    requires placed { Placed entries.program.now entries.types.now entries.terms.now entries.functions.now }
+    requires typing_bytes_in_bounds { typing_bytes ≤ length ws.old }
+    requires signatures_are { SignaturesAre entries.program.now entries.functions.now entries.table.now }
+    requires entries_tested { EntriesTested entries.program.now entries.types.now entries.terms.now entries.functions.now nodes.now tested }
+    ensures { Examined result counts entries.entry.program.now entries.entry.types.now entries.entry.terms.now entries.entry.functions.now entries.entry.table.now }
+{
+    tested.verdict.map_err(entry_refusal)?;
+    functions::check_functions(&entries, nodes, ws).map_err(typing_refusal)?;
+    Ok(counts)
+}
+
+// What loading answers: how many entries of each tag are ready, at the fronts of the buffers, or refusal 2 to 8 at a field's offset. Beside
+// it the tally of the counts of type nodes that were made, and the table that keeps them (document 02, F-4).
+#[derive(Clone, Copy)]
 pub struct TalliedLoad {
-    pub loaded: Loaded,
+    pub loaded: Result<Counts, Refusal>,
     pub tally: Tally,
     pub counts: [u16; MAX_TYPES],
 }
 
-// No type was counted.
-fn untallied(loaded: Loaded) -> TalliedLoad
-    ensures { Untallied result loaded }
+// A refusal before any type was counted.
+fn untallied(refusal: Refusal) -> TalliedLoad
+    ensures { Untallied result (Err refusal) }
 {
-    let tally = Tally { counted: 0 };
-    let counts = [0u16; MAX_TYPES];
     TalliedLoad {
-        loaded,
-        tally,
-        counts,
-    }
-}
-
-// Row Typing, for entries that are tested. It counts no nodes: it has the counts.
-fn infer(
-    p: &[u8],
-    counts: Counts,
-    types: &[u16],
-    terms: &[u16],
-    functions: &[u16],
-    table: &[[u16; MAX_PARAMETERS]; MAX_FUNCTIONS],
-    nodes: &[u16],
-    ws: &mut [u8],
-) -> Loaded
-    requires typeable { Typeable p.now types.now terms.now functions.now nodes.now ws.old }
-    requires signatures_are { SignaturesAre p.now functions.now table.now }
-    ensures { Examined result counts p.now types.now terms.now functions.now table.now }
-{
-    let v = functions::check_functions(p, types, terms, functions, table, nodes, ws);
-    match v {
-        functions::Verdict::Typed => Loaded::Ready(counts),
-        functions::Verdict::Differ(at) => Loaded::Refused(Refusal::Mismatch(at)),
-        functions::Verdict::Unscoped(at) => Loaded::Refused(Refusal::Scope(at)),
-        functions::Verdict::Misused(at) => Loaded::Refused(Refusal::Usage(at)),
-    }
-}
-
-// Row Entries, whose tests are made, then row Typing.
-fn judge(
-    p: &[u8],
-    counts: Counts,
-    types: &[u16],
-    terms: &[u16],
-    functions: &[u16],
-    table: &[[u16; MAX_PARAMETERS]; MAX_FUNCTIONS],
-    tested: Tested,
-    nodes: &[u16; MAX_TYPES],
-    ws: &mut [u8],
-) -> Loaded
-    requires placed { Placed p.now types.now terms.now functions.now }
-    requires typing_bytes_in_bounds { typing_bytes ≤ length ws.old }
-    requires signatures_are { SignaturesAre p.now functions.now table.now }
-    requires entries_tested { EntriesTested p.now types.now terms.now functions.now nodes.now tested }
-    ensures { Examined result counts p.now types.now terms.now functions.now table.now }
-{
-    let v = tested.verdict;
-    match v {
-        testing::Verdict::Sound => infer(p, counts, types, terms, functions, table, nodes, ws),
-        testing::Verdict::BadReference(at) => Loaded::Refused(Refusal::Reference(at)),
-        testing::Verdict::BadType(at) => Loaded::Refused(Refusal::NamedType(at)),
+        loaded: Err(refusal),
+        tally: Tally { counted: 0 },
+        counts: [0u16; MAX_TYPES],
     }
 }
 
 // Both rows, for fields that are read, with the tally.
-fn examine(
-    p: &[u8],
-    counts: Counts,
-    types: &[u16],
-    terms: &[u16],
-    functions: &[u16],
-    table: &[[u16; MAX_PARAMETERS]; MAX_FUNCTIONS],
-    ws: &mut [u8],
-) -> TalliedLoad
-    requires placed { Placed p.now types.now terms.now functions.now }
+fn examine(entries: Entries, counts: Counts, ws: &mut [u8]) -> TalliedLoad
+    requires placed { Placed entries.program.now entries.types.now entries.terms.now entries.functions.now }
     requires typing_bytes_in_bounds { typing_bytes ≤ length ws.old }
-    requires signatures_are { SignaturesAre p.now functions.now table.now }
-    ensures examined { Examined result.loaded counts p.now types.now terms.now functions.now table.now }
-    ensures tally_means { TallyMeans result p.now }
+    requires signatures_are { SignaturesAre entries.program.now entries.functions.now entries.table.now }
+    ensures examined { Examined result.loaded counts entries.entry.program.now entries.entry.types.now entries.entry.terms.now entries.entry.functions.now entries.entry.table.now }
+    ensures tally_means { TallyMeans result entries.entry.program.now }
 {
     let mut nodes = [0u16; MAX_TYPES];
-    let t = testing::test_entries(p, types, terms, functions, &mut nodes);
-    let tally = t.tally;
-    let loaded = judge(p, counts, types, terms, functions, table, t, &nodes, ws);
+    let tested = testing::test_entries(
+        entries.program,
+        entries.types,
+        entries.terms,
+        entries.functions,
+        &mut nodes,
+    );
+    let tally = tested.tally;
+    let loaded = judge(entries, counts, tested, &nodes, ws);
     TalliedLoad {
         loaded,
         tally,
@@ -126,7 +124,8 @@ fn examine(
     }
 }
 
-// All three rows, with the tally. The workspace is room for the types that typing makes; the table is left with the signatures of the functions.
+// All three rows, with the tally, in buffers that the caller lends. The workspace is room for the types that typing makes; the table is left
+// with the signatures of the functions.
 pub fn load_tallied(
     p: &[u8],
     types: &mut [u16],
@@ -141,41 +140,48 @@ pub fn load_tallied(
     ensures load_means { LoadMeans result.loaded p.now types.new terms.new functions.new table.new }
     ensures tally_means { TallyMeans result p.now }
 {
-    let v = fields::layout(p, types, terms, functions, table);
-    match v {
-        fields::Fields::Read(counts) => {
+    match fields::layout(p, types, terms, functions, table) {
+        Ok(counts) => {
             let i = counts.types;
             let j = counts.terms;
             let k = counts.functions;
-            examine(
-                p,
-                counts,
-                &types[..i],
-                &terms[..j],
-                &functions[..k],
+            let entries = Entries {
+                program: p,
+                types: &types[..i],
+                terms: &terms[..j],
+                functions: &functions[..k],
                 table,
-                ws,
-            )
+            };
+            examine(entries, counts, ws)
         }
-        fields::Fields::Malformed(at) => untallied(Loaded::Refused(Refusal::Field(at))),
-        fields::Fields::Over(at) => untallied(Loaded::Refused(Refusal::Limit(at))),
+        Err(e) => untallied(field_refusal(e)),
     }
 }
 
-// All three rows, for callers that do not ask for the tally.
-pub fn load(
-    p: &[u8],
-    types: &mut [u16],
-    terms: &mut [u16],
-    functions: &mut [u16],
-    table: &mut [[u16; MAX_PARAMETERS]; MAX_FUNCTIONS],
-    ws: &mut [u8],
-) -> Loaded
-    requires buffers { Buffers types.old terms.old functions.old }
-    requires typing_bytes_in_bounds { typing_bytes ≤ length ws.old }
-    requires table_value { table.old ≡ unsigned }
-    ensures { LoadMeans result p.now types.new terms.new functions.new table.new }
+// All three rows, for callers that do not ask for the tally: what is loaded has the arrays.
+pub fn load<'a>(program: &'a [u8], workspace: &mut [u8]) -> Result<Loaded<'a>, Refusal>
+    requires { typing_bytes ≤ length workspace.old }
+    ensures { Loads result program.now }
 {
-    let t = load_tallied(p, types, terms, functions, table, ws);
-    t.loaded
+    let mut types = [0u16; MAX_TYPES];
+    let mut terms = [0u16; MAX_TERMS];
+    let mut functions = [0u16; MAX_FUNCTIONS];
+    let mut table = [[0u16; MAX_PARAMETERS]; MAX_FUNCTIONS];
+    let tallied = load_tallied(
+        program,
+        &mut types,
+        &mut terms,
+        &mut functions,
+        &mut table,
+        workspace,
+    );
+    let counts = tallied.loaded?;
+    Ok(Loaded {
+        program,
+        counts,
+        types,
+        terms,
+        functions,
+        table,
+    })
 }

@@ -1,14 +1,10 @@
 -- Answers as lines of calls and answers (crate calltext), and a refusal with its meaning.
-use Rattle.std.specs.Prelude.{ℕ, List, ◌++◌, take}
+use Rattle.std.specs.Prelude.{ℕ, List, ◌++◌, take, Result, Ok, Err}
 use package.Rattle.calls.specs.Answer.{Answer, accepted, refused}
 use package.Rattle.answers.specs.Answers.{number_of, place_of}
 use package.Rattle.answers.specs.declared.Refusal.{Refusal}
-use package.Rattle.answers.specs.declared.RunAnswer.{RunAnswer}
-use package.Rattle.answers.specs.declared.RunAnswer.TheVariants as runs
-use package.Rattle.answers.specs.declared.NurseAnswer.{NurseAnswer}
-use package.Rattle.answers.specs.declared.NurseAnswer.TheVariants as nurses
-use package.Rattle.answers.specs.declared.WriteAnswer.{WriteAnswer}
-use package.Rattle.answers.specs.declared.WriteAnswer.TheVariants as writes
+use package.Rattle.answers.specs.declared.Done.{Done}
+use package.Rattle.answers.specs.declared.Shown.{Shown}
 use package.Rattle.calltext.specs.Text.{text}
 use package.Rattle.calltext.specs.Answers.{two_numbers, value_line, seen_line, bytes_line, refused_line, opened_line, held_line}
 use package.Rattle.messages.specs.Meanings.{meaning_of}
@@ -42,17 +38,17 @@ held_text (accepted a) journal = held_line a.0 a.1 journal
 held_text (refused n p) journal = refused_line n p
 
 -- how many bytes of the output a call filled
-abbrev pub length_of : RunAnswer → ℕ
-length_of (runs.Ran d) = d.len
-length_of (runs.Refused r) = 0
+abbrev pub length_of : Result Done Refusal → ℕ
+length_of (Ok d) = d.len
+length_of (Err r) = 0
 
-abbrev pub seen_length : NurseAnswer → ℕ
-seen_length (nurses.Shows s) = s.len
-seen_length (nurses.Refused r) = 0
+abbrev pub seen_length : Result Shown Refusal → ℕ
+seen_length (Ok s) = s.len
+seen_length (Err r) = 0
 
-abbrev pub written_length : WriteAnswer → ℕ
-written_length (writes.Wrote n) = n
-written_length (writes.Refused r) = 0
+abbrev pub written_length : Result ℕ Refusal → ℕ
+written_length (Ok n) = n
+written_length (Err r) = 0
 
 -- number and place, in front of the meaning
 abbrev pub where_text : ℕ → ℕ → List ℕ

@@ -42,25 +42,18 @@ pub fn place(r: Refusal) -> u64
     ensures { result ≡ place_of r }
 {
     match r {
-        Refusal::Workspace => 0,
-        Refusal::Field(at) => at as u64,
-        Refusal::Limit(at) => at as u64,
-        Refusal::Reference(at) => at as u64,
-        Refusal::NamedType(at) => at as u64,
-        Refusal::Mismatch(at) => at as u64,
-        Refusal::Scope(at) => at as u64,
-        Refusal::Usage(at) => at as u64,
-        Refusal::Function => 0,
-        Refusal::Values => 0,
-        Refusal::ValueType => 0,
-        Refusal::Fuel(k) => k as u64,
-        Refusal::Height(k) => k as u64,
-        Refusal::Long(k) => k as u64,
-        Refusal::FirstMatch(k) => k as u64,
-        Refusal::NoInput(k) => k as u64,
-        Refusal::Output => 0,
-        Refusal::Journal => 0,
-        Refusal::Standing => 0,
-        Refusal::Full => 0,
+        Refusal::Field(at)
+        | Refusal::Limit(at)
+        | Refusal::Reference(at)
+        | Refusal::NamedType(at)
+        | Refusal::Mismatch(at)
+        | Refusal::Scope(at)
+        | Refusal::Usage(at) => at as u64,
+        Refusal::Fuel(k)
+        | Refusal::Height(k)
+        | Refusal::Long(k)
+        | Refusal::FirstMatch(k)
+        | Refusal::NoInput(k) => u64::from(k),
+        _ => 0,
     }
 }

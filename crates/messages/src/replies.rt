@@ -16,9 +16,14 @@ fn put_refusal(r: Refusal, between: &[u8], behind: &[u8], out: &mut [u8]) -> usi
     ensures tells { Wrote out.old out.new 0 result (two_numbers (text "refused ") (number_of r) between.now (place_of r) behind.now) }
     ensures short { result ≤ length between.now + length behind.now + 48 }
 {
-    let number = crate::number(r);
-    let place = crate::place(r);
-    texts::two_numbers(b"refused ", number, between, place, behind, out)
+    texts::two_numbers(
+        b"refused ",
+        crate::number(r),
+        between,
+        crate::place(r),
+        behind,
+        out,
+    )
 }
 
 // The line of a refusal.
@@ -35,65 +40,70 @@ fn front_line(word: &[u8], len: u16, number: u16, output: &[u8], out: &mut [u8])
     requires output_in_bounds { length word.now + 2 * length output.now + 24 ≤ length out.old }
     ensures { Wrote out.old out.new 0 result (numbered_line word.now (take len output.now) number) }
 {
-    let n = octets::wide_index(len);
-    texts::numbered_line(word, &output[..n], number as u64, out)
+    let n = usize::from(len);
+    texts::numbered_line(word, &output[..n], u64::from(number), out)
 }
 
 // The line that answers a check.
+#[tactic(auto, unfolding(crate::specs::Replies::check_text))]
 pub fn check_line(answer: CheckAnswer, out: &mut [u8]) -> usize
     requires { 64 ≤ length out.old }
     ensures { Wrote out.old out.new 0 result (check_text (check_answer answer)) }
 {
     match answer {
-        CheckAnswer::Accepted => texts::put(b"ok\n", out, 0),
-        CheckAnswer::Refused(r) => refusal_line(r, out),
+        Ok(()) => texts::put(b"ok\n", out, 0),
+        Err(r) => refusal_line(r, out),
     }
 }
 
 // The line that answers a run, whose value the output starts with.
+#[tactic(auto, unfolding(crate::specs::Replies::run_text))]
 pub fn run_line(answer: RunAnswer, output: &[u8], out: &mut [u8]) -> usize
     requires answer_in_bounds { length_of answer ≤ length output.now }
     requires output_in_bounds { (2 * length output.now + 32 ≤ length out.old) × (64 ≤ length out.old) }
     ensures { Wrote out.old out.new 0 result (run_text (run_answer answer) output.now) }
 {
     match answer {
-        RunAnswer::Ran(d) => front_line(b"value ", d.len, d.steps, output, out),
-        RunAnswer::Refused(r) => refusal_line(r, out),
+        Ok(d) => front_line(b"value ", d.len, d.steps, output, out),
+        Err(r) => refusal_line(r, out),
     }
 }
 
 // The line that answers the nurse's reader, whose held value the output starts with.
+#[tactic(auto, unfolding(crate::specs::Replies::nurse_text))]
 pub fn nurse_line(answer: NurseAnswer, output: &[u8], out: &mut [u8]) -> usize
     requires answer_in_bounds { seen_length answer ≤ length output.now }
     requires output_in_bounds { (2 * length output.now + 32 ≤ length out.old) × (64 ≤ length out.old) }
     ensures { Wrote out.old out.new 0 result (nurse_text (nurse_answer answer) output.now) }
 {
     match answer {
-        NurseAnswer::Shows(s) => front_line(b"held ", s.len, s.standing, output, out),
-        NurseAnswer::Refused(r) => refusal_line(r, out),
+        Ok(s) => front_line(b"held ", s.len, s.standing, output, out),
+        Err(r) => refusal_line(r, out),
     }
 }
 
 // The line that answers a call which writes bytes, with which the output starts.
+#[tactic(auto, unfolding(crate::specs::Replies::write_text))]
 pub fn write_line(answer: WriteAnswer, output: &[u8], out: &mut [u8]) -> usize
     requires answer_in_bounds { written_length answer ≤ length output.now }
     requires output_in_bounds { (2 * length output.now + 8 ≤ length out.old) × (64 ≤ length out.old) }
     ensures { Wrote out.old out.new 0 result (write_text (write_answer answer) output.now) }
 {
     match answer {
-        WriteAnswer::Wrote(n) => texts::word_line(b"bytes ", &output[..n], out),
-        WriteAnswer::Refused(r) => refusal_line(r, out),
+        Ok(n) => texts::word_line(b"bytes ", &output[..n], out),
+        Err(r) => refusal_line(r, out),
     }
 }
 
 // The line that answers an open, with the journal as it left it.
+#[tactic(auto, unfolding(crate::specs::Replies::opened_text))]
 pub fn opened_line(answer: CheckAnswer, journal: &[u8], out: &mut [u8]) -> usize
     requires { 2 * length journal.now + 64 ≤ length out.old }
     ensures { Wrote out.old out.new 0 result (opened_text (check_answer answer) journal.now) }
 {
     match answer {
-        CheckAnswer::Accepted => texts::word_line(b"ok ", journal, out),
-        CheckAnswer::Refused(r) => refusal_line(r, out),
+        Ok(()) => texts::word_line(b"ok ", journal, out),
+        Err(r) => refusal_line(r, out),
     }
 }
 
@@ -102,19 +112,18 @@ fn turned_line(d: Done, journal: &[u8], out: &mut [u8]) -> usize
     requires { 2 * length journal.now + 64 ≤ length out.old }
     ensures { Wrote out.old out.new 0 result (held_line d.len d.steps journal.now) }
 {
-    let len = d.len as u64;
-    let steps = d.steps as u64;
-    texts::held_line(len, steps, journal, out)
+    texts::held_line(u64::from(d.len), u64::from(d.steps), journal, out)
 }
 
 // The line that answers a convert or rollback, with the journal as it left it.
+#[tactic(auto, unfolding(crate::specs::Replies::held_text))]
 pub fn held_line(answer: RunAnswer, journal: &[u8], out: &mut [u8]) -> usize
     requires { 2 * length journal.now + 64 ≤ length out.old }
     ensures { Wrote out.old out.new 0 result (held_text (run_answer answer) journal.now) }
 {
     match answer {
-        RunAnswer::Ran(d) => turned_line(d, journal, out),
-        RunAnswer::Refused(r) => refusal_line(r, out),
+        Ok(d) => turned_line(d, journal, out),
+        Err(r) => refusal_line(r, out),
     }
 }
 
@@ -132,7 +141,6 @@ pub fn refusal_text(r: Refusal, out: &mut [u8]) -> usize
     ensures { Wrote out.old out.new 0 result (refusal_text r) }
 {
     let told = put_where(r, out);
-    let n = crate::number(r);
-    let meant = meanings::put_meaning(n, out, told);
+    let meant = meanings::put_meaning(crate::number(r), out, told);
     texts::put(b"\n", out, meant)
 }

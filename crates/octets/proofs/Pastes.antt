@@ -1,12 +1,38 @@
 -- Laws of runs put into bytes: lengths, what stands before and behind, one run behind another, and numbers as runs.
 use Prim.Native.Nat.{ℕ, suc, ◌+◌, ◌/◌, ◌%◌, ◌<◌, ◌≤◌}
 use native.Mathlib.Omega.{arith}
-use mathlib.Core.Path.{◌≡◌, sym, ap, ap₂, ◌∙◌}
+use mathlib.Core.Path.{◌≡◌, refl, sym, ap, ap₂, ◌∙◌}
 use mathlib.Core.List.{List, [], ◌∷◌, ◌++◌, append_assoc}
 use lib.ListN.{length, get_or, set, take, drop, length-append, length-drop, get_or-append}
 use lib.Seq.{length-take-le, set_split, take_at, drop_at, take-append-le, take-take, get_or-take, drop-drop}
+use borrow.Rule.Slice.PartMut.{put_mid}
+use Rattle.std.specs.Int.{w16, w32, to_be_bytes}
 use package.Rattle.octets.specs.Numbers.{bytes16, bytes32, put16, put32}
 use package.Rattle.octets.specs.Runs.{pasted}
+use package.Rattle.octets.proofs.Numbers.{length-bytes16, length-bytes32}
+
+----------------------------------------------------------------
+-- A part that is overwritten
+
+pub part_pasted : (xs : List ℕ) (at k : ℕ) {ys zs : List ℕ} → k ≡ length zs → ys ≡ zs → put_mid at k xs ys ≡ pasted xs at zs
+unfolding pasted
+part_pasted xs at k {ys} {zs} e s =
+    ap₂ (λ n l. take at xs ++ (l ++ drop n (drop at xs))) e s ∙ sym (append_assoc (take at xs) zs _)
+    ∙ ap (λ r. take at xs ++ zs ++ r) (drop-drop (length zs) at xs)
+
+-- the library's bytes of a number, the high one first
+be_bytes16 : (n : ℕ) → to_be_bytes w16 n ≡ bytes16 n
+unfolding bytes16
+be_bytes16 n = refl
+
+be_bytes32 : (n : ℕ) → to_be_bytes w32 n ≡ bytes32 n
+unfolding bytes32 bytes16
+be_bytes32 n =
+    ap₂ (λ x y. x ∷ y)
+    (let e : n / 16777216 % 256 ≡ n / 65536 / 256 % 256 = omega arith in e)
+    (ap₂ (λ x y. n / 65536 % 256 ∷ x ∷ y ∷ [])
+    (let e : n / 256 % 256 ≡ n % 65536 / 256 % 256 = omega arith in e)
+    (let e : n % 256 ≡ n % 65536 % 256 = omega arith in e))
 
 ----------------------------------------------------------------
 -- A run in its place
@@ -98,3 +124,10 @@ put32-pasted xs i n h =
     (omega (arith, ap length (put16-pasted xs i (n / 65536) (omega arith)), length-pasted xs i a (omega arith)))
     ∙ ap (λ s. pasted s (i + 2) (bytes16 (n % 65536))) (put16-pasted xs i (n / 65536) (omega arith))
     ∙ pasted-behind xs i a (omega arith) (bytes16 (n % 65536))
+
+-- the library's bytes of a number in place of a part
+pub part-put16 : (xs : List ℕ) (i k : ℕ) {ys : List ℕ} (n : ℕ) → i + 2 ≤ length xs → k ≡ 2 → ys ≡ to_be_bytes w16 n → put_mid i k xs ys ≡ put16 xs i n
+part-put16 xs i k n h e s = part_pasted xs i k (e ∙ sym (length-bytes16 n)) (s ∙ be_bytes16 n) ∙ sym (put16-pasted xs i n h)
+
+pub part-put32 : (xs : List ℕ) (i k : ℕ) {ys : List ℕ} (n : ℕ) → i + 4 ≤ length xs → k ≡ 4 → ys ≡ to_be_bytes w32 n → put_mid i k xs ys ≡ put32 xs i n
+part-put32 xs i k n h e s = part_pasted xs i k (e ∙ sym (length-bytes32 n)) (s ∙ be_bytes32 n) ∙ sym (put32-pasted xs i n h)

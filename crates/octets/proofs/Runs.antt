@@ -3,23 +3,13 @@ use Prim.Native.Nat.{ℕ, suc, ◌+◌, ◌<◌, ◌≤◌}
 use native.Mathlib.Omega.{arith}
 use mathlib.Core.Path.{◌≡◌, sym, ap, ◌∙◌}
 use mathlib.Core.List.{List, ◌++◌, append-nil}
-use lib.ListN.{length, get_or, set, take, drop, replicate, length-replicate, drop_of_length-le, replicate-append-replicate}
-use lib.Seq.{drop-cons, set_at, append_snoc, paste, paste-suc, take-length}
+use lib.ListN.{length, get_or, set, take, drop, replicate, drop_of_length-le}
+use lib.Seq.{paste, paste-suc, take-length}
 use package.Rattle.octets.specs.Runs.{pasted}
 
 -- `n` zeros in front of what is left of `xs`
 abbrev pub zeroed : List ℕ → ℕ → List ℕ
 zeroed xs n = replicate n 0 ++ drop n xs
-
--- one more zero
-pub zeroed-suc : (xs : List ℕ) (n : ℕ) (zs : List ℕ) → zs ≡ zeroed xs n → n < length xs → set zs n 0 ≡ zeroed xs (n + 1)
-zeroed-suc xs n zs e h =
-    ap (λ zs. set zs n 0) e
-    ∙ ap (λ r. set (replicate n 0 ++ r) n 0) (drop-cons xs n 0 h)
-    ∙ set_at (replicate n 0) (get_or xs n 0) (drop (suc n) xs) 0 n (length-replicate n 0)
-    ∙ sym (append_snoc (replicate n 0) 0 (drop (suc n) xs))
-    ∙ ap (λ r. r ++ drop (suc n) xs) (replicate-append-replicate n 1 0)
-    ∙ ap (λ k. replicate (n + 1) 0 ++ drop k xs) (let z : suc n ≡ n + 1 = omega arith in z)
 
 -- all zeros
 pub zeroed-all : (xs : List ℕ) (n : ℕ) → length xs ≡ n → zeroed xs n ≡ replicate (length xs) 0

@@ -6,8 +6,10 @@ use mathlib.Core.Bool.{Bool, true, false}
 use mathlib.Core.List.{List, ◌++◌, append_assoc}
 use lib.ListN.{length, get_or, take, drop, replicate, length-replicate, get_or-replicate, replicate-append-replicate, length-drop, length-append}
 use lib.Seq.{ext_get_or, take_at, drop_at, drop-drop, length-take-le}
+use lib.Dec.{eqb}
 use lib.Bits.{bit_or, or_add_and, and_le_l, and_le_r}
 use borrow.Author.Count.{below_more}
+use borrow.Author.Tests.{eqb-true, eqb-false}
 use package.Rattle.octets.specs.Runs.{Decides}
 use package.Rattle.octets.proofs.Runs.{zeroed}
 
@@ -38,14 +40,17 @@ seen_more xs n seen s =
     }
 
 -- all bytes
-pub seen_all : (xs : List ℕ) (n seen : ℕ) → length xs ≡ n → Seen xs n seen → seen ≡ 0 → xs ≡ replicate (length xs) 0
+seen_all : (xs : List ℕ) (n seen : ℕ) → length xs ≡ n → Seen xs n seen → seen ≡ 0 → xs ≡ replicate (length xs) 0
 seen_all xs n seen e s z =
     ext_get_or 0 xs (replicate (length xs) 0) (sym (length-replicate (length xs) 0))
     (λ k h. s.none z k (omega arith) ∙ sym (get_or-replicate (length xs) k 0 0 h))
 
-pub seen_some : (xs : List ℕ) (n seen : ℕ) → length xs ≡ n → Seen xs n seen → 0 < seen → xs ≡ replicate (length xs) 0 → ⊥
-seen_some xs n seen e s more z =
-    omega (arith, s.all (λ k h. ap (λ l. get_or l k 0) z ∙ get_or-replicate (length xs) k 0 0 (omega arith)))
+pub seen_decided : (xs : List ℕ) (n seen : ℕ) → length xs ≡ n → Seen xs n seen → Decides (eqb seen 0) (xs ≡ replicate (length xs) 0)
+seen_decided xs n seen e s = go (eqb seen 0) refl
+  where
+    go : (b : Bool) → eqb seen 0 ≡ b → Decides b (xs ≡ replicate (length xs) 0)
+    go true q = seen_all xs n seen e s (eqb-true seen 0 q)
+    go false q = λ z. eqb-false seen 0 q (s.all (λ k h. ap (λ l. get_or l k 0) z ∙ get_or-replicate (length xs) k 0 0 (omega arith)))
 
 -- what was decided, and holds
 pub provided_true : {P : Type 0} (b : Bool) → Decides b P → b ≡ true → P

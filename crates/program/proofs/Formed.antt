@@ -1,14 +1,12 @@
 -- Laws of one field: what each test of calls/specs/Fields comes to, in the order in which the code makes them.
-use Prim.Native.Nat.{ℕ, ◌+◌, ◌%◌, ◌<◌, ◌≤◌}
+use Prim.Native.Nat.{ℕ, ◌<◌, ◌≤◌}
 use mathlib.Core.Path.{◌≡◌, refl, sym, ◌∙◌}
 use mathlib.Core.Bool.{Bool, true, false, not, ◌||◌}
 use mathlib.Core.List.{List}
-use lib.ListN.{length, get_or, get_or-eq_default}
-use lib.Dec.{eqb, leb}
+use lib.ListN.{get_or, get_or-eq_default}
+use lib.Dec.{eqb}
 use borrow.Author.Tests.{le-leb, lt-leb, ne_eqb, not-true, not-false}
-use package.Rattle.calls.specs.Fields.{call_kind, type_tag, term_tag, function_tag, tag_at, length_at, next_at, kind_at, parameters_at, type_lengths, term_lengths, call_length, type_length, term_length, function_length, body_fits, well_formed}
-use package.Rattle.rules.specs.Limits.{max_parameters}
-use package.Rattle.program.specs.Places.{parameters_within}
+use package.Rattle.calls.specs.Fields.{call_kind, type_tag, term_tag, function_tag, tag_at, length_at, kind_at, parameters_at, type_lengths, term_lengths, call_length, type_length, term_length, function_length, body_fits}
 
 ----------------------------------------------------------------
 -- A test that is made by a function, and denied in an `if`
@@ -39,14 +37,6 @@ pub type_by_kind : (kind n m : ℕ) → 1 ≤ n → m ≡ get_or type_lengths ki
 unfolding type_length
 type_by_kind kind n m h e = rw (le-leb 1 n h, e)
 
-pub call-short : (n : ℕ) → n < 5 → false ≡ call_length n
-unfolding call_length
-call-short n h = rw (lt-leb 5 n h)
-
-pub call-odd : (n : ℕ) → 5 ≤ n → eqb (n % 2) 1 ≡ call_length n
-unfolding call_length
-call-odd n h = rw (le-leb 5 n h)
-
 pub term-empty : (kind n : ℕ) → n < 1 → false ≡ term_length kind n
 unfolding term_length
 term-empty kind n h = rw (lt-leb 1 n h)
@@ -58,15 +48,6 @@ term-call kind n h e = rw (le-leb 1 n h, e)
 pub term_by_kind : (kind n m : ℕ) → 1 ≤ n → (kind ≡ call_kind → ⊥) → m ≡ get_or term_lengths kind 0 → eqb n m ≡ term_length kind n
 unfolding term_length
 term_by_kind kind n m h k e = rw (le-leb 1 n h, ne_eqb kind call_kind k, e)
-
--- a count of parameters
-pub no_parameters : (n : ℕ) → n < 1 → false ≡ parameters_within n
-unfolding parameters_within
-no_parameters n h = rw (lt-leb 1 n h)
-
-pub some_parameters : (n : ℕ) → 1 ≤ n → leb n max_parameters ≡ parameters_within n
-unfolding parameters_within max_parameters
-some_parameters n h = rw (le-leb 1 n h)
 
 ----------------------------------------------------------------
 -- The body, by the tag
@@ -95,23 +76,3 @@ module _ (xs : List ℕ) (at : ℕ) where
   pub fits_nothing : (tag_at xs at ≡ type_tag → ⊥) → (tag_at xs at ≡ term_tag → ⊥) → (tag_at xs at ≡ function_tag → ⊥) → false ≡ body_fits xs at
   unfolding body_fits
   fits_nothing a b c = rw (ne_eqb (tag_at xs at) type_tag a, ne_eqb (tag_at xs at) term_tag b, ne_eqb (tag_at xs at) function_tag c)
-
-  ----------------------------------------------------------------
-  -- The whole field
-
-  module _ (last : ℕ) where
-    pub formed-short : length xs < at + 3 → false ≡ well_formed xs at last
-    unfolding well_formed
-    formed-short h = rw (lt-leb (at + 3) (length xs) h)
-
-    pub formed-low : at + 3 ≤ length xs → tag_at xs at < last → false ≡ well_formed xs at last
-    unfolding well_formed
-    formed-low h k = rw (le-leb (at + 3) (length xs) h, lt-leb last (tag_at xs at) k)
-
-    pub formed-long : at + 3 ≤ length xs → last ≤ tag_at xs at → length xs < next_at xs at → false ≡ well_formed xs at last
-    unfolding well_formed
-    formed-long h k l = rw (le-leb (at + 3) (length xs) h, le-leb last (tag_at xs at) k, lt-leb (next_at xs at) (length xs) l)
-
-    pub formed-body : at + 3 ≤ length xs → last ≤ tag_at xs at → next_at xs at ≤ length xs → body_fits xs at ≡ well_formed xs at last
-    unfolding well_formed
-    formed-body h k l = rw (le-leb (at + 3) (length xs) h, le-leb last (tag_at xs at) k, le-leb (next_at xs at) (length xs) l)

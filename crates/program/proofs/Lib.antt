@@ -1,12 +1,16 @@
 -- Laws of programs as bytes, by subject.
 -- one field: the tests on it, in the order of the code
 pub mod Formed
+-- the kinds as enums
+pub mod KindCases
 -- which entry a field is, by its kind
 pub mod Shapes
 -- how many bytes a well-formed field has, by its kind
 pub mod Rooms
 -- the fields of an accepted layout are well-formed
 pub mod Inside
+-- the tags as an enum
+pub mod TagCases
 -- one field placed: the layout and its counts with a field more
 pub mod Placing
 -- one field read: its tests and its answer

@@ -59,10 +59,6 @@ module _ (xs : List ℕ) (at : ℕ) (types terms functions : List ℕ) where
   unfolding with_field
   with_function e = rw e
 
-  with_nothing : (tag_at xs at ≡ type_tag → ⊥) → (tag_at xs at ≡ term_tag → ⊥) → (tag_at xs at ≡ function_tag → ⊥) → with_field xs at (places_of types terms functions) ≡ places_of types terms functions
-  unfolding with_field
-  with_nothing a b c = rw (ne_eqb (tag_at xs at) type_tag a, ne_eqb (tag_at xs at) term_tag b, ne_eqb (tag_at xs at) function_tag c)
-
   ----------------------------------------------------------------
   -- The counts
 
@@ -145,16 +141,6 @@ module _ (xs : List ℕ) (at : ℕ) (c : Counts) (types terms functions : List �
     within = record { types = p.within.types; terms = p.within.terms; functions = omega arith };
     allowed = ap (within_counts xs at) (function_in_lem e) ∙ counts-within xs at _ _ _ few_types few_terms (rw function-more (omega arith)) (allowed-function xs at e t);
   }
-
-  pub nothing_placed : (tag_at xs at ≡ type_tag → ⊥) → (tag_at xs at ≡ term_tag → ⊥) → (tag_at xs at ≡ function_tag → ⊥) → Added c xs at (fronts_of types terms functions c) types terms functions
-  nothing_placed h i j = record {
-    fronts = sym w;
-    within = p.within;
-    allowed = ap (within_counts xs at) w ∙ counts-within xs at _ _ _ few_types few_terms few_functions (allowed-unless xs at j);
-  }
-    where
-      w : with_field xs at (fronts_of types terms functions c) ≡ fronts_of types terms functions c
-      w = with_nothing xs at (take c.types types) (take c.terms terms) (take c.functions functions) h i j
 
   pub type-full : tag_at xs at ≡ type_tag → max_types ≤ c.types → within_counts xs at (with_field xs at (fronts_of types terms functions c)) ≡ false
   type-full e h = ap (within_counts xs at) (type_in_lem e) ∙ types-over xs at _ _ _ (rw type-more (omega arith))

@@ -11,7 +11,7 @@ use package.Rattle.calls.specs.Answer.{Answer, accepted, refused, ◌>>=◌, req
 use package.Rattle.calls.specs.Fields.{Layout, no_fields, tag_at, next_at, well_formed, with_field, within_counts, read_fields, layout}
 use package.Rattle.program.specs.declared.fields.Counts.{Counts}
 use package.Rattle.program.proofs.Inside.{well_formed_lem}
-use package.Rattle.program.specs.declared.fields.Fields.TheVariants.{Read}
+use Rattle.std.specs.Prelude.{Ok}
 use package.Rattle.program.specs.Places.{Placed, fronts_of, Within, Buffers, Placeable, Added, FieldsMean}
 
 ----------------------------------------------------------------
@@ -143,7 +143,7 @@ module _ {xs types terms functions : List ℕ} {c : Counts} {at last : ℕ} (r :
 ----------------------------------------------------------------
 -- What a caller has of a program that is read: its layout is the fronts, and the buffers hold them
 
-module _ {xs types terms functions : List ℕ} {c : Counts} (m : FieldsMean (Read c) xs types terms functions) where
+module _ {xs types terms functions : List ℕ} {c : Counts} (m : FieldsMean (Ok c) xs types terms functions) where
   pub read-placed : Placed xs (take c.types types) (take c.terms terms) (take c.functions functions)
   read-placed = record { read = m.answer }
 

@@ -1,6 +1,10 @@
 -- What the code says of programs. The modules in reading order:
 -- the kinds of entries by name
 pub mod Kinds
+-- the numbers of the kinds, as the code's enums have them
+pub mod KindNumbers
+-- the numbers of the tags, as the code's enum has them
+pub mod Tags
 -- where the fields of a program's entries stand
 pub mod Places
 -- what reading one field answers

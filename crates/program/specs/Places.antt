@@ -1,14 +1,12 @@
 -- Where the fields of a program's entries stand, as the code holds them: offsets in three buffers, of which the fronts count.
 -- In order: offsets that are a program's layout; fronts of buffers; what placing one field answers, and what reading them all does.
-use Rattle.std.specs.Prelude.{ℕ, ◌+◌, ◌≤◌, ◌≡◌, Bool, true, false, ◌&&◌, List, length, take, leb}
+use Rattle.std.specs.Prelude.{ℕ, ◌+◌, ◌≤◌, ◌≡◌, Bool, true, false, ◌&&◌, List, length, take, leb, Option, Some, None, Result, Ok, Err}
 use package.Rattle.rules.specs.Limits.{max_types, max_terms, max_functions, max_parameters, max_program_bytes}
 use package.Rattle.calls.specs.Answer.{Answer, accepted, refused}
 use package.Rattle.calls.specs.Fields.{field_head, Layout, with_field, within_counts, layout}
 use package.Rattle.program.specs.declared.fields.Counts.{Counts}
-use package.Rattle.program.specs.declared.fields.Fields.{Fields}
-use package.Rattle.program.specs.declared.fields.Fields.TheVariants.{Read, Malformed, Over}
-use package.Rattle.program.specs.declared.fields.Placing.{Placing}
-use package.Rattle.program.specs.declared.fields.Placing.TheVariants.{More, Full}
+use package.Rattle.program.specs.declared.fields.FieldError.{FieldError}
+use package.Rattle.program.specs.declared.fields.FieldError.TheVariants.{Malformed, Over}
 
 -- the layout with these offsets of types, terms and functions
 abbrev pub places_of : List ℕ → List ℕ → List ℕ → Layout
@@ -58,26 +56,26 @@ pub record Added (c : Counts) (xs : List ℕ) (at : ℕ) (L : Layout) (types ter
   pub allowed : within_counts xs at (with_field xs at L) ≡ true
 
 -- what placing the field at `at` answers, `L` being the layout before it
-abbrev pub PlacingMeans : Placing → List ℕ → ℕ → Layout → List ℕ → List ℕ → List ℕ → Type 0
-PlacingMeans (More c) xs at L types terms functions = Added c xs at L types terms functions
-PlacingMeans Full xs at L types terms functions = within_counts xs at (with_field xs at L) ≡ false
+abbrev pub PlacingMeans : Option Counts → List ℕ → ℕ → Layout → List ℕ → List ℕ → List ℕ → Type 0
+PlacingMeans (Some c) xs at L types terms functions = Added c xs at L types terms functions
+PlacingMeans None xs at L types terms functions = within_counts xs at (with_field xs at L) ≡ false
 
 ----------------------------------------------------------------
 -- All fields
 
 -- the answer in the definitions' terms
-abbrev pub answer_of : Fields → List ℕ → List ℕ → List ℕ → Answer Layout
-answer_of (Read c) types terms functions = accepted (fronts_of types terms functions c)
-answer_of (Malformed at) types terms functions = refused 2 at
-answer_of (Over at) types terms functions = refused 3 at
+abbrev pub answer_of : Result Counts FieldError → List ℕ → List ℕ → List ℕ → Answer Layout
+answer_of (Ok c) types terms functions = accepted (fronts_of types terms functions c)
+answer_of (Err (Malformed at)) types terms functions = refused 2 at
+answer_of (Err (Over at)) types terms functions = refused 3 at
 
 -- the counts, where there are any, are those that section 1 allows
-abbrev pub Counted : Fields → Type 0
-Counted (Read c) = Within c
-Counted (Malformed at) = Unit {0}
-Counted (Over at) = Unit {0}
+abbrev pub Counted : Result Counts FieldError → Type 0
+Counted (Ok c) = Within c
+Counted (Err (Malformed at)) = Unit {0}
+Counted (Err (Over at)) = Unit {0}
 
-pub record FieldsMean (r : Fields) (xs types terms functions : List ℕ) : Type 0 where
+pub record FieldsMean (r : Result Counts FieldError) (xs types terms functions : List ℕ) : Type 0 where
   pub answer : layout xs ≡ answer_of r types terms functions
   pub counted : Counted r
   -- so that a front is as long as its count

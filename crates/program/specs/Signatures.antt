@@ -1,10 +1,10 @@
 -- The signatures of functions, as the code holds them: rows of eight parameter type numbers, a row for each function.
-use Rattle.std.specs.Prelude.{ℕ, ◌≤◌, ◌<◌, ◌≡◌, List, [], ◌∷◌, ◌++◌, length, get_or, set, take, replicate}
+use Rattle.std.specs.Prelude.{ℕ, ◌≤◌, ◌<◌, ◌≡◌, List, [], ◌∷◌, ◌++◌, length, get_or, set, take, replicate, Result, Ok, Err}
 use package.Rattle.rules.specs.Limits.{max_functions, max_parameters}
 use package.Rattle.calls.specs.Fields.{function_tag}
 use package.Rattle.calls.specs.Entries.{FunctionEntry, function_at}
-use package.Rattle.program.specs.declared.fields.Fields.{Fields}
-use package.Rattle.program.specs.declared.fields.Fields.TheVariants.{Read, Malformed, Over}
+use package.Rattle.program.specs.declared.fields.Counts.{Counts}
+use package.Rattle.program.specs.declared.fields.FieldError.{FieldError}
 use package.Rattle.program.specs.Parts.{FunctionField}
 
 -- the parameter types of a function in order, the dynamic one last
@@ -43,7 +43,6 @@ pub record SignaturesAre (xs functions : List ℕ) (table : List (List ℕ)) : T
   pub beyond : (g : ℕ) → length functions ≤ g → g < max_functions → get_or table g [] ≡ replicate max_parameters 0
 
 -- what reading the fields leaves in the table
-abbrev pub Tabulated : Fields → List ℕ → List ℕ → List (List ℕ) → Type 0
-Tabulated (Read c) xs functions table = SignaturesAre xs (take c.functions functions) table
-Tabulated (Malformed at) xs functions table = Unit {0}
-Tabulated (Over at) xs functions table = Unit {0}
+abbrev pub Tabulated : Result Counts FieldError → List ℕ → List ℕ → List (List ℕ) → Type 0
+Tabulated (Ok c) xs functions table = SignaturesAre xs (take c.functions functions) table
+Tabulated (Err e) xs functions table = Unit {0}

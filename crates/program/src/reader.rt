@@ -4,31 +4,34 @@ ghost use Rattle.std.specs.Prelude.{◌≡◌, ◌≤◌, length};
 ghost use Rattle.program.specs.Found.{found_of, field_at};
 
 use crate::fields;
+use crate::tags::Tag;
 
-#[derive(Drop)]
+#[derive(Clone, Copy)]
 pub struct FieldReader<'a> {
     pub program: &'a [u8],
     pub at: usize,
 }
 
-// What stands at a position: a well-formed field, with its tag and the offset of the next field; or none (refusal 2).
-#[derive(Drop)]
-pub enum Field {
-    Whole { tag: u8, next: usize },
-    Malformed,
+// A well-formed field: its tag and the offset of the next field.
+#[derive(Clone, Copy, PartialEq, Eq, Debug)]
+pub struct Field {
+    pub tag: Tag,
+    pub next: usize,
 }
 
+// What stands at a position: a well-formed field, or none (refusal 2).
+
 // The field at an offset, `last` being the tag of the field before it.
-pub fn field_at(p: &[u8], at: usize, last: u8) -> Field
+pub fn field_at(p: &[u8], at: usize, last: u8) -> Option<Field>
     requires { at ≤ length p.now }
     ensures { found_of result at ≡ field_at p.now at last }
 {
     if fields::well_formed(p, at, last) {
-        let tag = fields::tag_at(p, at);
+        let tag = Tag::try_from(fields::tag_at(p, at)).unwrap();
         let next = fields::next_at(p, at);
-        return Field::Whole { tag, next };
+        return Some(Field { tag, next });
     }
-    Field::Malformed
+    None
 }
 
 impl<'a> FieldReader<'a> {
@@ -39,7 +42,7 @@ impl<'a> FieldReader<'a> {
     }
 
     // The field at the reader's position.
-    pub fn field(self, last: u8) -> Field
+    pub fn field(self, last: u8) -> Option<Field>
         requires { self.at ≤ length self.program.now }
         ensures { found_of result self.entry.at ≡ field_at self.entry.program.now self.entry.at last }
     {
@@ -48,7 +51,7 @@ impl<'a> FieldReader<'a> {
 }
 
 // The field at an offset, by a reader that stands there.
-pub fn read_field(p: &[u8], at: usize, last: u8) -> Field
+pub fn read_field(p: &[u8], at: usize, last: u8) -> Option<Field>
     requires { at ≤ length p.now }
     ensures { found_of result at ≡ field_at p.now at last }
 {

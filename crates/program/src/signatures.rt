@@ -15,11 +15,8 @@ pub fn signature(p: &[u8], at: usize) -> [u16; MAX_PARAMETERS]
 {
     let n = views::function_parameters(p, at);
     let mut row = [0u16; MAX_PARAMETERS];
-    let mut k = 0;
-    while k < n {
-        let x = views::listed(p, at, k);
-        row[k] = x;
-        k += 1;
+    for k in 0..n {
+        row[k] = views::listed(p, at, k);
     }
     row
 }

@@ -5,10 +5,10 @@ ghost use Rattle.std.specs.Prelude.{◌≡◌, ◌+◌, ◌*◌, ◌≤◌, ◌<
 ghost use Rattle.calls.specs.Fields.{kind_at, length_at, parameters_at};
 ghost use Rattle.calls.specs.Entries.{call_ancillae};
 ghost use Rattle.program.specs.Parts.{variable, first, second, third, listed, result_of, body, TypeField, TermField};
-ghost use Rattle.program.specs.Kinds.{type_kinds, term_kinds};
+ghost use Rattle.program.specs.KindNumbers.{type_kind_number, term_kind_number};
 ghost use Rattle.program.specs.Lists.{types_in_type, types_in_term, functions_in_term, terms_in_term, terms_from};
 
-use crate::kinds;
+use crate::kinds::{TermKind, TypeKind};
 
 // Types and terms.
 
@@ -20,18 +20,18 @@ pub fn kind(p: &[u8], at: usize) -> u8
 }
 
 // The same of a well-formed field: one of five kinds, one of eleven.
-pub fn type_kind(p: &[u8], at: usize) -> usize
+pub fn type_kind(p: &[u8], at: usize) -> TypeKind
     requires { TypeField p.now at }
-    ensures { (result ≡ kind_at p.now at) × (result < type_kinds) }
+    ensures { type_kind_number result ≡ kind_at p.now at }
 {
-    octets::wide_index(octets::wide16(kind(p, at)))
+    TypeKind::try_from(kind(p, at)).unwrap()
 }
 
-pub fn term_kind(p: &[u8], at: usize) -> usize
+pub fn term_kind(p: &[u8], at: usize) -> TermKind
     requires { TermField p.now at }
-    ensures { (result ≡ kind_at p.now at) × (result < term_kinds) }
+    ensures { term_kind_number result ≡ kind_at p.now at }
 {
-    octets::wide_index(octets::wide16(kind(p, at)))
+    TermKind::try_from(kind(p, at)).unwrap()
 }
 
 // The number of the variable that a type or a term is.
@@ -78,7 +78,7 @@ pub fn call_ancillae(p: &[u8], at: usize) -> usize
     requires { (at + 3 ≤ length p.now) × (5 ≤ length_at p.now at) }
     ensures { result ≡ call_ancillae (length_at p.now at) }
 {
-    let n = octets::wide_index(octets::read16(p, at + 1));
+    let n = usize::from(octets::read16(p, at + 1));
     (n - 5) / 2
 }
 
@@ -95,7 +95,7 @@ pub fn function_parameters(p: &[u8], at: usize) -> usize
     requires { at + 6 ≤ length p.now }
     ensures { (result ≡ parameters_at p.now at) × (result < 256) }
 {
-    octets::wide_index(octets::wide16(p[at + 5]))
+    usize::from(p[at + 5])
 }
 
 pub fn function_body(p: &[u8], at: usize) -> u16
@@ -107,52 +107,38 @@ pub fn function_body(p: &[u8], at: usize) -> u16
 }
 
 // How many references an entry has, by its kind, in the order of the bytes; specs/Lists has the tables. A term's stand for a type or a
-// function first, then for terms; a call has its ancilla terms besides. The numbers are bytes: each use of a table makes it anew.
-
-const TYPES_IN_TYPE: [usize; kinds::TYPE_KINDS] = [0, 2, 2, 1, 0];
-
-const TYPES_IN_TERM: [u8; kinds::TERM_KINDS] = [0, 0, 1, 1, 0, 0, 0, 0, 0, 1, 1];
-
-const FUNCTIONS_IN_TERM: [u8; kinds::TERM_KINDS] = [0, 0, 0, 0, 0, 0, 0, 0, 1, 0, 0];
-
-const TERMS_IN_TERM: [u8; kinds::TERM_KINDS] = [0, 0, 1, 1, 2, 2, 2, 3, 1, 1, 1];
-
-// The kind of a call, as wide as a place of the tables.
-const CALL: usize = kinds::CALL as usize;
+// function first, then for terms; a call has its ancilla terms besides.
 
 pub fn types_in_type(p: &[u8], at: usize) -> usize
     requires { TypeField p.now at }
     ensures { result ≡ types_in_type p.now at }
 {
-    let k = type_kind(p, at);
-    TYPES_IN_TYPE[k]
+    type_kind(p, at).types()
 }
 
 pub fn types_in_term(p: &[u8], at: usize) -> usize
     requires { TermField p.now at }
     ensures { result ≡ types_in_term p.now at }
 {
-    let k = term_kind(p, at);
-    octets::wide_index(octets::wide16(TYPES_IN_TERM[k]))
+    term_kind(p, at).types()
 }
 
 pub fn functions_in_term(p: &[u8], at: usize) -> usize
     requires { TermField p.now at }
     ensures { result ≡ functions_in_term p.now at }
 {
-    let k = term_kind(p, at);
-    octets::wide_index(octets::wide16(FUNCTIONS_IN_TERM[k]))
+    term_kind(p, at).functions()
 }
 
 pub fn terms_in_term(p: &[u8], at: usize) -> usize
     requires { TermField p.now at }
     ensures { result ≡ terms_in_term p.now at }
 {
-    let k = term_kind(p, at);
-    if k == CALL {
-        return call_ancillae(p, at) + 1;
+    let kind = term_kind(p, at);
+    match kind {
+        TermKind::Call => call_ancillae(p, at) + 1,
+        _ => kind.terms(),
     }
-    octets::wide_index(octets::wide16(TERMS_IN_TERM[k]))
 }
 
 // Where a term's references to terms start.

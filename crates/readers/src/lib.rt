@@ -6,26 +6,29 @@ ghost use Rattle.std.specs.Prelude.{◌≡◌, length};
 ghost use Rattle.calls.specs.Answer.{overwritten};
 ghost use Rattle.calls.specs.Readers.{held_bytes, nurse_call, workshop_call};
 ghost use Rattle.answers.specs.Answers.{nurse_answer, write_answer, seen_answer, length_answer};
-ghost use Rattle.journal.specs.Places.{Stands};
+ghost use Rattle.readers.specs.Reading.{FormTested, Filled};
 
 use answers::{NurseAnswer, Refusal, Shown, WriteAnswer};
-use journal::places::{Places, Survey};
-use journal::{form, parts};
+use journal::form;
+use journal::parts::Standing;
 
-// The nurse's reader of a journal that has its form: the held value's bytes, and how many conversions stand.
-fn show_held(journal: &[u8], pl: Places, output: &mut [u8]) -> NurseAnswer
-    requires { Stands pl journal.now }
-    ensures answer { nurse_answer result ≡ seen_answer (nurse_call journal.now (length output.old)) }
-    ensures fills { output.new ≡ overwritten (held_bytes (nurse_call journal.now (length output.old))) output.old }
+// The journal, if it has its form.
+fn read(journal: &[u8]) -> Result<Standing<'_>, Refusal>
+    ensures { FormTested result journal.now }
 {
-    let held = parts::held_value(journal, pl);
-    if output.len() < held.len() {
-        return NurseAnswer::Refused(Refusal::Output);
+    let places = form::survey(journal).ok_or(Refusal::Journal)?;
+    Ok(Standing { journal, places })
+}
+
+// The bytes fill the output from its start, if it has room for them; the answer is their length.
+fn fill(output: &mut [u8], bytes: &[u8]) -> WriteAnswer
+    ensures { Filled result bytes.now output.old output.new }
+{
+    if output.len() < bytes.len() {
+        return Err(Refusal::Output);
     }
-    octets::copy(output, 0, held);
-    let len = held.len() as u16;
-    let standing = pl.count as u16;
-    NurseAnswer::Shows(Shown { len, standing })
+    octets::copy(output, 0, bytes);
+    Ok(bytes.len())
 }
 
 // At the bedside: the held value fills the output from its start, and the answer is its length and how many conversions stand. Nothing
@@ -34,24 +37,10 @@ pub fn nurse(journal: &[u8], output: &mut [u8]) -> NurseAnswer
     ensures answer { nurse_answer result ≡ seen_answer (nurse_call journal.now (length output.old)) }
     ensures fills { output.new ≡ overwritten (held_bytes (nurse_call journal.now (length output.old))) output.old }
 {
-    match form::survey(journal) {
-        Survey::Form(pl) => show_held(journal, pl, output),
-        Survey::Malformed => NurseAnswer::Refused(Refusal::Journal),
-    }
-}
-
-// The workshop's reader of a journal that has its form: the conversions' fields.
-fn show_fields(journal: &[u8], pl: Places, output: &mut [u8]) -> WriteAnswer
-    requires { Stands pl journal.now }
-    ensures answer { write_answer result ≡ length_answer (workshop_call journal.now (length output.old)) }
-    ensures fills { output.new ≡ overwritten (workshop_call journal.now (length output.old)) output.old }
-{
-    let fields = parts::standing_fields(journal, pl);
-    if output.len() < fields.len() {
-        return WriteAnswer::Refused(Refusal::Output);
-    }
-    octets::copy(output, 0, fields);
-    WriteAnswer::Wrote(fields.len())
+    let journal = read(journal)?;
+    let len = fill(output, journal.held_value())? as u16;
+    let standing = journal.places.count as u16;
+    Ok(Shown { len, standing })
 }
 
 // At the desk: the fields of all conversions as they stand, oldest first, fill the output from its start; the answer is their length.
@@ -59,8 +48,6 @@ pub fn workshop(journal: &[u8], output: &mut [u8]) -> WriteAnswer
     ensures answer { write_answer result ≡ length_answer (workshop_call journal.now (length output.old)) }
     ensures fills { output.new ≡ overwritten (workshop_call journal.now (length output.old)) output.old }
 {
-    match form::survey(journal) {
-        Survey::Form(pl) => show_fields(journal, pl, output),
-        Survey::Malformed => WriteAnswer::Refused(Refusal::Journal),
-    }
+    let journal = read(journal)?;
+    fill(output, journal.standing_fields())
 }

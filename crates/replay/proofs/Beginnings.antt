@@ -13,17 +13,18 @@ use package.Rattle.calls.specs.Conversions.{open_call}
 use package.Rattle.calls.specs.Book.{is_open, resized, after_open}
 use package.Rattle.answers.specs.Answers.{check_answer, open_answer}
 use package.Rattle.answers.specs.declared.Refusal.{Refusal}
-use package.Rattle.answers.specs.declared.CheckAnswer.{CheckAnswer}
-use package.Rattle.answers.specs.declared.CheckAnswer.TheVariants as checks
 use package.Rattle.replay.specs.Lines.{line}
 use package.Rattle.replay.specs.Inner.Told.{check_line}
 use package.Rattle.replay.specs.Playing.{unopened, ends, ReplayMeans}
-use package.Rattle.replay.specs.Inner.Steps.{swept, play, follows, opens_to, begins, begins_at, Ahead}
+use package.Rattle.replay.specs.Inner.Steps.{swept, play, follows, opens_to, begins_as, begins, begins_at, Ahead}
 use package.Rattle.replay.specs.declared.scripts.Part.{Part}
-use package.Rattle.replay.specs.declared.scripts.Step.{Step}
-use package.Rattle.replay.specs.declared.scripts.Step.TheVariants as steps
-use package.Rattle.replay.specs.declared.replies.ReplayAnswer.{ReplayAnswer}
-use package.Rattle.replay.specs.declared.replies.ReplayAnswer.TheVariants as replies
+use package.Rattle.replay.specs.declared.scripts.Kind.{Kind}
+use package.Rattle.replay.specs.declared.scripts.Kind.TheVariants.{Open, Convert, Rollback}
+use package.Rattle.replay.specs.Scripts as steps
+use package.Rattle.replay.specs.Scripts.{Step}
+use Rattle.std.specs.Prelude.{Result as Outcome, Ok, Err}
+use package.Rattle.replay.specs.declared.replies.ReplayError.{ReplayError}
+use package.Rattle.replay.specs.declared.replies.ReplayError.TheVariants as errors
 use package.Rattle.replay.proofs.Fronts.{resized-longer}
 use package.Rattle.replay.proofs.Parsed.{ahead_as}
 
@@ -38,15 +39,15 @@ module _ (program s : List ℕ) (p : Part) (J A W : List ℕ) where
   ----------------------------------------------------------------
   -- By the answer
 
-  pub follow_refused : (answer : CheckAnswer) (r : Refusal) → answer ≡ checks.Refused r
-      → ReplayMeans (replies.Unopened r) (follows (check_answer answer) program s p J A W) J A W
+  pub follow_refused : (answer : Outcome (Unit {0}) Refusal) (r : Refusal) → answer ≡ Err r
+      → ReplayMeans (Err (errors.Unopened r)) (follows (check_answer answer) program s p J A W) J A W
   unfolding follows
   follow_refused answer r e =
-      subst (λ x. ReplayMeans (replies.Unopened r) (follows (check_answer x) program s p J A W) J A W) (sym e)
+      subst (λ x. ReplayMeans (Err (errors.Unopened r)) (follows (check_answer x) program s p J A W) J A W) (sym e)
       (record { answer = refl; kept = refl; told = refl; clear = refl })
 
-  pub follow_accepted : (answer : CheckAnswer) (a : ReplayAnswer) (l J₁ A₁ J' A' W' : List ℕ) → answer ≡ checks.Accepted → p.n ≤ length J
-      → J₁ ≡ take p.n J ++ replicate (length J - p.n) 0 → l ≡ check_line (check_answer checks.Accepted) → A₁ ≡ pasted A 0 l
+  pub follow_accepted : (answer : Outcome (Unit {0}) Refusal) (a : Outcome ℕ ReplayError) (l J₁ A₁ J' A' W' : List ℕ) → answer ≡ Ok tt → p.n ≤ length J
+      → J₁ ≡ take p.n J ++ replicate (length J - p.n) 0 → l ≡ check_line (check_answer (Ok tt)) → A₁ ≡ pasted A 0 l
       → ReplayMeans a (play (length s) program s p.next 1 J₁ A₁ W) J' A' W'
       → ReplayMeans a (follows (check_answer answer) program s p J A W) J' A' W'
   unfolding follows check_line
@@ -71,7 +72,7 @@ module _ (program s : List ℕ) (p : Part) (J A W : List ℕ) where
       (let z : length (xs ++ drop p.n J) ≡ length J = omega (arith, length-append xs (drop p.n J), length-drop p.n J) in z)
       (take_at xs (drop p.n J) p.n e)
 
-  pub opened-begins : (a : ReplayAnswer) (r : CheckAnswer) (held f W₁ J' A' W' : List ℕ) → p.n ≤ length J → length f ≡ length (take p.n J)
+  pub opened-begins : (a : Outcome ℕ ReplayError) (r : Outcome (Unit {0}) Refusal) (held f W₁ J' A' W' : List ℕ) → p.n ≤ length J → length f ≡ length (take p.n J)
       → check_answer r ≡ open_answer (open_call program held (length W) (length (take p.n J)))
       → f ≡ (after_open (take p.n J) (open_call program held (length W) (length (take p.n J)))).journal
       → W₁ ≡ cleared (open_call program held (length W) (length (take p.n J))) W
@@ -85,19 +86,29 @@ module _ (program s : List ℕ) (p : Part) (J A W : List ℕ) where
       ∙ follows-opened (open_call program held (length W) (length (take p.n J))) h (ap length (sym ef) ∙ e ∙ k)
       ∙ ap (λ i. opens_to (open_call program held (length W) i) program s p.next J A W) k) M
 
+  -- a first call of another kind
+  pub begins-other : (p.kind ≡ Open → ⊥) → ReplayMeans (Err (errors.Malformed 0)) (begins program s p J A W) J A W
+  unfolding begins begins_as
+  begins-other h = by p.kind refl
+    where
+      by : (k : Kind) → p.kind ≡ k → ReplayMeans (Err (errors.Malformed 0)) (begins_as k program s p J A W) J A W
+      by Open e = absurd (h e)
+      by (Convert fuel function) e = record { answer = refl; kept = refl; told = refl; clear = refl }
+      by (Rollback fuel) e = record { answer = refl; kept = refl; told = refl; clear = refl }
+
 ----------------------------------------------------------------
 -- What stands at the start
 
 module _ (program s J A W : List ℕ) where
-  pub begins-end : (x : Step) → steps.End ≡ x → ReplayMeans (replies.Malformed 0) (begins_at x program s J A W) J A W
+  pub begins-end : (x : Step) → steps.End ≡ x → ReplayMeans (Err (errors.Malformed 0)) (begins_at x program s J A W) J A W
   unfolding begins_at
-  begins-end x e = subst (λ x. ReplayMeans (replies.Malformed 0) (begins_at x program s J A W) J A W) e (record { answer = refl; kept = refl; told = refl; clear = refl })
+  begins-end x e = subst (λ x. ReplayMeans (Err (errors.Malformed 0)) (begins_at x program s J A W) J A W) e (record { answer = refl; kept = refl; told = refl; clear = refl })
 
-  pub begins-malformed : (x : Step) → steps.Malformed ≡ x → ReplayMeans (replies.Malformed 0) (begins_at x program s J A W) J A W
+  pub begins-malformed : (x : Step) → steps.Malformed ≡ x → ReplayMeans (Err (errors.Malformed 0)) (begins_at x program s J A W) J A W
   unfolding begins_at
-  begins-malformed x e = subst (λ x. ReplayMeans (replies.Malformed 0) (begins_at x program s J A W) J A W) e (record { answer = refl; kept = refl; told = refl; clear = refl })
+  begins-malformed x e = subst (λ x. ReplayMeans (Err (errors.Malformed 0)) (begins_at x program s J A W) J A W) e (record { answer = refl; kept = refl; told = refl; clear = refl })
 
-  pub begins-play : (p : Part) (a : ReplayAnswer) (x : Step) (J' A' W' : List ℕ) → steps.Play p ≡ x → ReplayMeans a (begins program s p J A W) J' A' W'
+  pub begins-play : (p : Part) (a : Outcome ℕ ReplayError) (x : Step) (J' A' W' : List ℕ) → steps.Play p ≡ x → ReplayMeans a (begins program s p J A W) J' A' W'
       → ReplayMeans a (begins_at x program s J A W) J' A' W'
   unfolding begins_at
   begins-play p a x J' A' W' e M = subst (λ x. ReplayMeans a (begins_at x program s J A W) J' A' W') e M

@@ -30,8 +30,8 @@ use package.Rattle.replay.specs.Lines.{line, lines}
 use package.Rattle.replay.specs.Playing.{Reply, played, cut, reply_to, Split, split, Result, ends}
 use package.Rattle.replay.specs.Inner.Steps.{hinders, halts, on, swept, leaves, tested, PlayedTurn, unplayed, makes, turn_of, play}
 use package.Rattle.replay.specs.declared.scripts.Part.{Part}
-use package.Rattle.replay.specs.declared.scripts.Step.{Step}
-use package.Rattle.replay.specs.declared.scripts.Step.TheVariants as steps
+use package.Rattle.replay.specs.Scripts.{Step}
+use package.Rattle.replay.specs.Scripts as steps
 use package.Rattle.replay.proofs.Parts.{small}
 use package.Rattle.replay.proofs.Lines.{length-line, zeros, zeros-length, swept-zeros}
 use package.Rattle.replay.proofs.Splits.{split_cuts, split_goes}
@@ -221,7 +221,7 @@ module _ (program s : List ℕ) (ws N : ℕ) where
 
         sized : Sized c.call
         unfolding c
-        sized = sized_is ws s p (small s at bytes q).0 (small s at bytes q).1
+        sized = sized_is ws s p (small s at bytes q)
 
         agrees : Agrees P c.call (resized (buffer c.call) j) ms left (book_turn program P c.call b)
         unfolding left

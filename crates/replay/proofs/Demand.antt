@@ -19,16 +19,19 @@ use package.Rattle.calls.proofs.Load.{load_iff}
 use package.Rattle.calls.proofs.Book.List.{runs}
 use package.Rattle.calls.proofs.Book.Rows.{standing-journal}
 use package.Rattle.calls.proofs.Book.Turn.{Keeps}
-use package.Rattle.replay.specs.Scripts.{pick, open_tag, convert_tag, step_at, given_of, call_of, Placed, Script, calls_of, parse}
+use package.Rattle.replay.specs.Scripts.{pick, step_at, given_of, call_as, call_of, Placed, Script, calls_of, parse}
 use package.Rattle.replay.specs.Lines.{lines}
 use package.Rattle.replay.specs.Playing.{Reply, too_wide, short_answers, reply_of, hindrance, Split, split, reply_to}
 use package.Rattle.replay.specs.Playing.{Result, ends, opened, starts_with, plays_unless, replayed, ReplayMeans}
 use package.Rattle.replay.specs.Inner.Steps.{hinders}
 use package.Rattle.replay.specs.Booked.{CutAt, ByTheBook, Untouched, Booked}
 use package.Rattle.replay.specs.declared.scripts.Part.{Part}
-use package.Rattle.replay.specs.declared.scripts.Step.{Step}
-use package.Rattle.replay.specs.declared.scripts.Step.TheVariants as steps
-use package.Rattle.replay.specs.declared.replies.ReplayAnswer.{ReplayAnswer}
+use package.Rattle.replay.specs.declared.scripts.Kind.{Kind}
+use package.Rattle.replay.specs.declared.scripts.Kind.TheVariants.{Open, Convert, Rollback}
+use package.Rattle.replay.specs.Scripts as steps
+use package.Rattle.replay.specs.Scripts.{Step}
+use Rattle.std.specs.Prelude.{Result as Outcome, Ok, Err}
+use package.Rattle.replay.specs.declared.replies.ReplayError.{ReplayError}
 use package.Rattle.replay.proofs.Lines.{zeros}
 use package.Rattle.replay.proofs.Parsed.{parse-ends, parse_breaks, parse-goes, unbroken, unhindered}
 use package.Rattle.replay.proofs.Splits.{split_all, rest_cuts}
@@ -157,12 +160,14 @@ module _ (program s J A W : List ℕ) (bytes : AreBytes s) where
   open_booked p q F o (accepted xs) e = accepted-booked p q F xs o e
 
   first-booked : (p : Part) → step_at s 0 ≡ steps.Play p → Free J A (length W) s p
-      → (a b : Bool) → eqb p.kind open_tag ≡ a → eqb p.kind convert_tag ≡ b
       → Claimed program s J A W (starts_with program J A W (call_of (length W) s p) (behind (length W) s p).calls)
-  unfolding starts_with call_of
-  first-booked p q F true b e g = simp e (open_booked p q F (simp e) (open_call program (given_of s p) (length W) p.n) refl)
-  first-booked p q F false true e g = simp (e, g) (untouched program s J A W)
-  first-booked p q F false false e g = simp (e, g) (untouched program s J A W)
+  unfolding starts_with call_of call_as
+  first-booked p q F = by p.kind refl
+    where
+      by : (k : Kind) → p.kind ≡ k → Claimed program s J A W (starts_with program J A W (call_as k (length W) s p) (behind (length W) s p).calls)
+      by Open e = open_booked p q F (ap (λ k. call_as k (length W) s p) e) (open_call program (given_of s p) (length W) p.n) refl
+      by (Convert fuel function) e = untouched program s J A W
+      by (Rollback fuel) e = untouched program s J A W
 
   -- of the script's result, by what hinders it
   abbrev Unless : Option Reply → Script → Type 0
@@ -174,7 +179,7 @@ module _ (program s J A W : List ℕ) (bytes : AreBytes s) where
   start-booked e steps.Malformed q = subst (Unless none) (sym (parse_breaks (length W) s (length s) 0 q)) (untouched program s J A W)
   start-booked e (steps.Play p) q =
       subst (Unless none) (sym (parse-goes (length W) s (length s) 0 p q))
-      (first-booked p q (free J A (length W) s p q e) (eqb p.kind open_tag) (eqb p.kind convert_tag) refl refl)
+      (first-booked p q (free J A (length W) s p q e))
 
   unless-booked : (x : Option Reply) → hinders (length J) (length A) (parse (length W) s) ≡ x → Unless x (parse (length W) s)
   unfolding plays_unless
@@ -186,7 +191,7 @@ module _ (program s J A W : List ℕ) (bytes : AreBytes s) where
   replay_book = unless-booked (hinders (length J) (length A) (parse (length W) s)) refl
 
   -- for an answer in code
-  pub replay_booked : (a : ReplayAnswer) (J' A' W' : List ℕ) → ReplayMeans a (replayed program s J A W) J' A' W'
+  pub replay_booked : (a : Outcome ℕ ReplayError) (J' A' W' : List ℕ) → ReplayMeans a (replayed program s J A W) J' A' W'
       → Booked program s J A W J' A' W' (reply_of a)
   replay_booked a J' A' W' M =
       let r = replayed program s J A W in

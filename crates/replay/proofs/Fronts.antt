@@ -13,10 +13,10 @@ use package.Rattle.calls.specs.Claims.{last_field}
 use package.Rattle.calls.specs.Journal.{Journal, read_journal}
 use package.Rattle.journal.specs.Places.{places_of, survey_of}
 use package.Rattle.journal.specs.declared.places.Places.{Places}
-use package.Rattle.journal.specs.declared.places.Survey.TheVariants as survey
 use package.Rattle.answers.specs.Answers.{check_answer, run_answer, open_answer, held_answer}
-use package.Rattle.answers.specs.declared.CheckAnswer.{CheckAnswer}
-use package.Rattle.answers.specs.declared.RunAnswer.{RunAnswer}
+use Rattle.std.specs.Prelude.{Option as Found, Some, None, Result as Outcome}
+use package.Rattle.answers.specs.declared.Refusal.{Refusal}
+use package.Rattle.answers.specs.declared.Done.{Done}
 use package.Rattle.replay.specs.Lines.{line}
 use package.Rattle.replay.specs.Inner.Told.{check_line, run_line}
 use package.Rattle.replay.specs.Inner.Steps.{swept, leaves, Made}
@@ -40,23 +40,23 @@ resized-longer n xs h = ap (λ ys. ys ++ replicate (n - length xs) 0) (take_all 
 ----------------------------------------------------------------
 -- The last field's end
 
-missing_by : (xs : List ℕ) (o : Option Journal) → read_journal xs ≡ o → survey.Malformed ≡ survey_of o → length xs ≡ last_field xs
+missing_by : (xs : List ℕ) (o : Option Journal) → read_journal xs ≡ o → None ≡ survey_of o → length xs ≡ last_field xs
 unfolding last_field survey_of
 missing_by xs none e p = rw (e, last_field)
 missing_by xs (some J) e p = absurd (let z : ◌≡◌ {A = ℕ} 0 1 = cc in omega arith)
 
-pub last_missing : (xs : List ℕ) → survey.Malformed ≡ survey_of (read_journal xs) → length xs ≡ last_field xs
+pub last_missing : (xs : List ℕ) → None ≡ survey_of (read_journal xs) → length xs ≡ last_field xs
 last_missing xs p = missing_by xs (read_journal xs) refl p
 
-form_inj : {p q : Places} → survey.Form p ≡ survey.Form q → p ≡ q
+form_inj : {p q : Places} → Some p ≡ Some q → p ≡ q
 form_inj e = cc
 
-there_by : (xs : List ℕ) (pl : Places) (o : Option Journal) → read_journal xs ≡ o → survey.Form pl ≡ survey_of o → pl.end ≡ last_field xs
+there_by : (xs : List ℕ) (pl : Places) (o : Option Journal) → read_journal xs ≡ o → Some pl ≡ survey_of o → pl.end ≡ last_field xs
 unfolding last_field survey_of places_of
 there_by xs pl none e p = absurd (let z : ◌≡◌ {A = ℕ} 0 1 = cc in omega arith)
 there_by xs pl (some J) e p = rw (e, last_field) (ap (λ (q : Places). q.end) (form_inj p))
 
-pub last-there : (xs : List ℕ) (pl : Places) → survey.Form pl ≡ survey_of (read_journal xs) → pl.end ≡ last_field xs
+pub last-there : (xs : List ℕ) (pl : Places) → Some pl ≡ survey_of (read_journal xs) → pl.end ≡ last_field xs
 last-there xs pl p = there_by xs pl (read_journal xs) refl p
 
 ----------------------------------------------------------------
@@ -84,7 +84,7 @@ module _ (program : List ℕ) (J W f l J' W' : List ℕ) where
         clear = ew ∙ ap (λ ys. swept (call program c ys).told W) front;
       }
 
-  pub open_made : (held : List ℕ) (n : ℕ) (r : CheckAnswer) → n ≤ length J → length f ≡ length (take n J)
+  pub open_made : (held : List ℕ) (n : ℕ) (r : Outcome (Unit {0}) Refusal) → n ≤ length J → length f ≡ length (take n J)
       → check_answer r ≡ open_answer (open_call program held (length W) (length (take n J)))
       → f ≡ (after_open (take n J) (open_call program held (length W) (length (take n J)))).journal
       → W' ≡ cleared (open_call program held (length W) (length (take n J))) W → l ≡ check_line (check_answer r) → J' ≡ cleared-behind n f J
@@ -97,7 +97,7 @@ module _ (program : List ℕ) (J W f l J' W' : List ℕ) where
       (el ∙ ap check_line (er ∙ ap open_answer same) ∙ opened-line (take n J) (open_call program held (length W) n))
       (ew ∙ ap (λ x. cleared x W) same ∙ opened-swept (take n J) W (open_call program held (length W) n)) ej
 
-  pub convert_made : (fuel fn : ℕ) (anc : List ℕ) (n : ℕ) (r : RunAnswer) → n ≤ length J → length f ≡ length (take n J)
+  pub convert_made : (fuel fn : ℕ) (anc : List ℕ) (n : ℕ) (r : Outcome Done Refusal) → n ≤ length J → length f ≡ length (take n J)
       → run_answer r ≡ held_answer (convert_call program fn anc fuel (length W) (take n J))
       → f ≡ (after_turned (take n J) (convert_call program fn anc fuel (length W) (take n J))).journal
       → W' ≡ cleared (convert_call program fn anc fuel (length W) (take n J)) W → l ≡ run_line (run_answer r) → J' ≡ cleared-behind n f J
@@ -108,7 +108,7 @@ module _ (program : List ℕ) (J W f l J' W' : List ℕ) where
       (el ∙ ap run_line er ∙ turned-line (take n J) (convert_call program fn anc fuel (length W) (take n J)))
       (ew ∙ turned-swept (take n J) W (convert_call program fn anc fuel (length W) (take n J))) ej
 
-  pub rollback_made : (fuel n : ℕ) (r : RunAnswer) → n ≤ length J → length f ≡ length (take n J)
+  pub rollback_made : (fuel n : ℕ) (r : Outcome Done Refusal) → n ≤ length J → length f ≡ length (take n J)
       → run_answer r ≡ held_answer (rollback_call program fuel (length W) (take n J))
       → f ≡ (after_turned (take n J) (rollback_call program fuel (length W) (take n J))).journal
       → W' ≡ cleared (rollback_call program fuel (length W) (take n J)) W → l ≡ run_line (run_answer r) → J' ≡ cleared-behind n f J

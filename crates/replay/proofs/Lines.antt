@@ -1,8 +1,9 @@
 -- The lines of answers, and the workspace after a call, by what the call told.
-use Prim.Native.Nat.{ℕ}
+use Prim.Native.Nat.{ℕ, ◌/◌, ◌%◌}
+use native.Mathlib.Omega.{arith}
 use mathlib.Core.Path.{◌≡◌, refl, ap}
 use mathlib.Core.Bool.{Bool, true, false, cond}
-use mathlib.Core.List.{List}
+use mathlib.Core.List.{List, [], ◌∷◌}
 use lib.ListN.{length, replicate, length-replicate}
 use lib.Dec.{eqb}
 use package.Rattle.octets.specs.Numbers.{bytes16, bytes32}
@@ -33,6 +34,16 @@ pub turned-swept : (j ws : List ℕ) (x : Answer Turned) → cleared x ws ≡ sw
 unfolding cleared swept after_turned
 turned-swept j ws (accepted t) = refl
 turned-swept j ws (refused n p) = refl
+
+-- the bytes of a line, each of them taken from its whole number
+pub line_bytes : (kind n d : ℕ)
+    → kind ∷ (n / 256 % 256) ∷ (n % 256) ∷ (d / 16777216 % 256) ∷ (d / 65536 % 256) ∷ (d / 256 % 256) ∷ (d % 256) ∷ [] ≡ line_of kind n d
+unfolding line_of bytes16 bytes32
+line_bytes kind n d =
+    let a : d / 16777216 % 256 ≡ d / 65536 / 256 % 256 = omega arith in
+    let b : d / 256 % 256 ≡ d % 65536 / 256 % 256 = omega arith in
+    let e : d % 256 ≡ d % 65536 % 256 = omega arith in
+    rw (a, b, e)
 
 pub refused-line : (kind : ℕ) {n m p q : ℕ} → n ≡ m → p ≡ q → line_of kind n p ≡ line_of kind m q
 refused-line kind e f = cc

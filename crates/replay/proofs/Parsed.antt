@@ -6,41 +6,41 @@ use mathlib.Core.Bool.{Bool, true, false}
 use mathlib.Core.Option.{Option, none, some}
 use mathlib.Core.List.{List, [], ◌∷◌}
 use lib.ListN.{length}
-use lib.Dec.{eqb, ltb}
+use lib.Dec.{ltb}
 use borrow.Author.Tests.{ltb-true, ltb-false, lt-ltb, le-ltb}
 use package.Rattle.rules.specs.Limits.{max_fuel}
-use package.Rattle.calls.specs.Book.{opens, converts, rolls_back, buffer}
+use package.Rattle.calls.specs.Book.{buffer}
 use package.Rattle.calls.specs.Claims.{Sized}
-use package.Rattle.replay.specs.Scripts.{pick, open_tag, convert_tag, step_at, given_of, call_of, Placed, parse_from, parse}
+use package.Rattle.replay.specs.Scripts.{pick, step_at, call_as, call_of, Placed, parse_from, parse}
 use package.Rattle.replay.specs.Playing.{Reply, too_wide, short_answers, hindrance}
 use package.Rattle.replay.specs.Inner.Steps.{Next, halts, on, hinders, room_for, Ahead}
 use package.Rattle.replay.specs.declared.scripts.Part.{Part}
-use package.Rattle.replay.specs.declared.scripts.Step.{Step}
-use package.Rattle.replay.specs.declared.scripts.Step.TheVariants as steps
-use package.Rattle.replay.proofs.Parts.{within}
+use package.Rattle.replay.specs.Scripts as steps
+use package.Rattle.replay.specs.Scripts.{Step}
+use package.Rattle.replay.specs.declared.scripts.Kind.{Kind}
+use package.Rattle.replay.specs.declared.scripts.Kind.TheVariants.{Open, Convert, Rollback}
+use package.Rattle.replay.proofs.Parts.{Small, within}
 
 ----------------------------------------------------------------
 -- A call of a script
 
 pub buffer_is : (ws : ℕ) (s : List ℕ) (p : Part) → buffer (call_of ws s p) ≡ p.n
-unfolding call_of buffer
-buffer_is ws s p = by (eqb p.kind open_tag) (eqb p.kind convert_tag)
+unfolding call_of call_as buffer
+buffer_is ws s p = by p.kind
   where
-    by : (a b : Bool) → buffer (pick a (opens (given_of s p) ws p.n)
-        (pick b (converts p.function (given_of s p) p.fuel ws p.n) (rolls_back p.fuel ws p.n))) ≡ p.n
-    by true b = refl
-    by false true = refl
-    by false false = refl
+    by : (k : Kind) → buffer (call_as k ws s p) ≡ p.n
+    by Open = refl
+    by (Convert fuel function) = refl
+    by (Rollback fuel) = refl
 
-pub sized_is : (ws : ℕ) (s : List ℕ) (p : Part) → p.fuel < 65536 → p.function < 65536 → Sized (call_of ws s p)
-unfolding call_of max_fuel
-sized_is ws s p f g = by (eqb p.kind open_tag) (eqb p.kind convert_tag)
+pub sized_is : (ws : ℕ) (s : List ℕ) (p : Part) → Small p.kind → Sized (call_of ws s p)
+unfolding call_of call_as max_fuel
+sized_is ws s p h = by p.kind h
   where
-    by : (a b : Bool) → Sized (pick a (opens (given_of s p) ws p.n)
-        (pick b (converts p.function (given_of s p) p.fuel ws p.n) (rolls_back p.fuel ws p.n)))
-    by true b = tt
-    by false true = (omega arith, g)
-    by false false = omega arith
+    by : (k : Kind) → Small k → Sized (call_as k ws s p)
+    by Open h = tt
+    by (Convert fuel function) h = (omega (arith, h.0), h.1)
+    by (Rollback fuel) h = omega (arith, h)
 
 abbrev pub placed_at : ℕ → ℕ → List ℕ → Part → Placed
 placed_at at ws s p = record { place = at; call = call_of ws s p }

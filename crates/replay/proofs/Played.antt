@@ -25,15 +25,18 @@ use package.Rattle.calls.proofs.Book.Rows.{journal, empty}
 use package.Rattle.calls.proofs.Book.Turn.{Keeps, written_keeps}
 use package.Rattle.calls.proofs.Journal.Buffers.{length-write_out}
 use package.Rattle.octets.proofs.Pastes.{length-pasted, pasted-behind}
-use package.Rattle.replay.specs.Scripts.{pick, open_tag, convert_tag, step_at, given_of, call_of, Script, calls_of, parse_from, parse}
+use package.Rattle.replay.specs.Scripts.{step_at, given_of, call_as, call_of, Script, calls_of, parse_from, parse}
 use package.Rattle.replay.specs.Lines.{line, lines}
 use package.Rattle.replay.specs.Playing.{Reply, malformed, reply_of, split, reply_to}
 use package.Rattle.replay.specs.Playing.{Result, ends, opened, starts_with, plays_unless, replayed, ReplayMeans}
-use package.Rattle.replay.specs.Inner.Steps.{hinders, swept, play, opens_to, begins, begins_at}
+use package.Rattle.replay.specs.Inner.Steps.{hinders, swept, play, opens_to, begins_as, begins, begins_at}
 use package.Rattle.replay.specs.declared.scripts.Part.{Part}
-use package.Rattle.replay.specs.declared.scripts.Step.{Step}
-use package.Rattle.replay.specs.declared.scripts.Step.TheVariants as steps
-use package.Rattle.replay.specs.declared.replies.ReplayAnswer.{ReplayAnswer}
+use package.Rattle.replay.specs.declared.scripts.Kind.{Kind}
+use package.Rattle.replay.specs.declared.scripts.Kind.TheVariants.{Open, Convert, Rollback}
+use package.Rattle.replay.specs.Scripts as steps
+use package.Rattle.replay.specs.Scripts.{Step}
+use Rattle.std.specs.Prelude.{Result as Outcome, Ok, Err}
+use package.Rattle.replay.specs.declared.replies.ReplayError.{ReplayError}
 use package.Rattle.replay.proofs.Lines.{length-line, zeros}
 use package.Rattle.replay.proofs.Parsed.{buffer_is, placed_at, parse-ends, parse_breaks, parse-goes, Unhindered, unhindered, same-hindrance}
 use package.Rattle.replay.proofs.Book.{Booking, books}
@@ -122,16 +125,13 @@ module _ (program s J A W : List ℕ) (bytes : AreBytes s) where
   -- by its kind
   first_is : (p : Part) → Free J A (length W) s p
       → begins program s p J A W ≡ starts_with program J A W (call_of (length W) s p) (behind (length W) s p).calls
-  unfolding begins call_of starts_with
-  first_is p F = by (eqb p.kind open_tag) (eqb p.kind convert_tag)
+  unfolding begins begins_as call_of call_as starts_with
+  first_is p F = by p.kind
     where
-      by : (a b : Bool) → pick a (opens_to (open_call program (given_of s p) (length W) p.n) program s p.next J A W) (ends (malformed 0) J A W)
-          ≡ starts_with program J A W (pick a (opens (given_of s p) (length W) p.n)
-          (pick b (converts p.function (given_of s p) p.fuel (length W) p.n) (rolls_back p.fuel (length W) p.n)))
-          (behind (length W) s p).calls
-      by true b = open_is p F (open_call program (given_of s p) (length W) p.n) refl
-      by false true = refl
-      by false false = refl
+      by : (k : Kind) → begins_as k program s p J A W ≡ starts_with program J A W (call_as k (length W) s p) (behind (length W) s p).calls
+      by Open = open_is p F (open_call program (given_of s p) (length W) p.n) refl
+      by (Convert fuel function) = refl
+      by (Rollback fuel) = refl
 
   -- the script's result, by what hinders it
   abbrev unless : Option Reply → Script → Result
@@ -153,14 +153,14 @@ module _ (program s J A W : List ℕ) (bytes : AreBytes s) where
   unfolding parse
   reading_is x e = same-hindrance (length W) 0 (length J) s (suc (length s)) (length A) 0 ∙ sym e
 
-  pub replay_stops : (a : ReplayAnswer) → some (reply_of a) ≡ hinders (length J) (length A) (parse 0 s)
+  pub replay_stops : (a : Outcome ℕ ReplayError) → some (reply_of a) ≡ hinders (length J) (length A) (parse 0 s)
       → ReplayMeans a (replayed program s J A W) J A W
   unfolding replayed plays_unless
   replay_stops a e =
       subst (λ x. ReplayMeans a (unless x (parse (length W) s)) J A W) (sym (reading_is (some (reply_of a)) e))
       (record { answer = refl; kept = refl; told = refl; clear = refl })
 
-  pub replay_goes : (a : ReplayAnswer) (J' A' W' : List ℕ) → none ≡ hinders (length J) (length A) (parse 0 s)
+  pub replay_goes : (a : Outcome ℕ ReplayError) (J' A' W' : List ℕ) → none ≡ hinders (length J) (length A) (parse 0 s)
       → ReplayMeans a (begins_at (step_at s 0) program s J A W) J' A' W' → ReplayMeans a (replayed program s J A W) J' A' W'
   unfolding replayed
   replay_goes a J' A' W' e M =

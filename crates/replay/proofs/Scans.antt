@@ -10,7 +10,7 @@ use package.Rattle.replay.specs.Scripts.{step_at, parse_from, parse}
 use package.Rattle.replay.specs.Playing.{Reply, malformed, hindrance}
 use package.Rattle.replay.specs.Inner.Steps.{Next, halts, on, hinders, room_for}
 use package.Rattle.replay.specs.declared.scripts.Part.{Part}
-use package.Rattle.replay.specs.declared.scripts.Step.TheVariants as steps
+use package.Rattle.replay.specs.Scripts as steps
 use package.Rattle.replay.proofs.Parts.{Within, within}
 use package.Rattle.replay.proofs.Turns.{Roomy, roomy}
 use package.Rattle.replay.proofs.Parsed.{parse-ends, parse_breaks, parse-goes, or_else, call-hinders}

@@ -11,20 +11,25 @@ use package.Rattle.octets.specs.Runs.{pasted}
 use package.Rattle.calls.specs.Book.{Call}
 use package.Rattle.calls.specs.Claims.{last_field}
 use package.Rattle.replay.specs.Scripts.{pick, step_at, call_of}
-use package.Rattle.replay.specs.Playing.{Reply, too_wide, short_answers, cut, reply_of, ReplayMeans}
+use package.Rattle.replay.specs.Playing.{Reply, too_wide, short_answers, cut, reply_of, Result, ends, ReplayMeans}
 use package.Rattle.replay.specs.Inner.Steps.{Next, halts, on, room_for, tested, makes, turn_of, play, Made, Ahead, PlayMeans}
 use package.Rattle.replay.specs.declared.scripts.Part.{Part}
-use package.Rattle.replay.specs.declared.scripts.Step.{Step}
-use package.Rattle.replay.specs.declared.scripts.Step.TheVariants as steps
-use package.Rattle.replay.specs.declared.replies.ReplayAnswer.{ReplayAnswer}
-use package.Rattle.replay.specs.declared.replies.ReplayAnswer.TheVariants as replies
-use package.Rattle.replay.specs.declared.replies.Move.{Move}
-use package.Rattle.replay.specs.declared.replies.Move.TheVariants as moves
+use package.Rattle.replay.specs.Scripts as steps
+use package.Rattle.replay.specs.Scripts.{Step}
+use Rattle.std.specs.Prelude.{Result as Outcome, Ok, Err}
+use Rattle.std.specs.Result.{IsErrAnd}
+use Rattle.std.proofs.lemmas.Result.{err_from_is_err_and}
+use package.Rattle.replay.specs.declared.replies.ReplayError.{ReplayError}
+use package.Rattle.replay.specs.declared.replies.ReplayError.TheVariants as errors
 use package.Rattle.replay.proofs.Parts.{within}
 use package.Rattle.replay.proofs.Parsed.{ahead-goes, ahead_as}
 
 ----------------------------------------------------------------
 -- The tests
+
+-- a step that failed is what the function answers
+pub went : {r : Outcome ℕ ReplayError} {d : ReplayError} → IsErrAnd r (λ e. e ≡ d) → r ≡ Err d
+went {r} h = let t = err_from_is_err_and r h in t.1 ∙ ap Err t.2
 
 halts≢on : {r : Reply} {k : ℕ} → halts r ≡ on k → ⊥
 halts≢on e = let z : ◌≡◌ {A = ℕ} 0 1 = cc in omega arith
@@ -66,29 +71,24 @@ test-goes n at next end journal q l = let z : last_field journal ≤ n = omega (
 -- One call
 
 module _ (program : List ℕ) (c : Call) (count : ℕ) (J A W : List ℕ) where
-  pub call-stops : (r : ReplayAnswer) (m : Next) → halts (reply_of r) ≡ m → PlayMeans (moves.Stop r) (makes m program c count J A W) J A W
+  pub call-stops : (r : ReplayError) (m : Next) → halts (reply_of (Err r)) ≡ m → PlayMeans (Err r) (makes m program c count J A W) J A W
   unfolding makes
-  call-stops r m e = subst (λ m. PlayMeans (moves.Stop r) (makes m program c count J A W) J A W) e (record { next_is = refl; kept = refl; told = refl; clear = refl })
+  call-stops r m e = subst (λ m. PlayMeans (Err r) (makes m program c count J A W) J A W) e (record { next_is = refl; kept = refl; told = refl; clear = refl })
 
   pub call-goes : (to : ℕ) (m : Next) (l J' A' W' : List ℕ) → on to ≡ m → Made program c J W l J' W' → A' ≡ pasted A (7 * count) l
-      → PlayMeans (moves.To to) (makes m program c count J A W) J' A' W'
+      → PlayMeans (Ok to) (makes m program c count J A W) J' A' W'
   unfolding makes
   call-goes to m l J' A' W' e M a =
-      subst (λ m. PlayMeans (moves.To to) (makes m program c count J A W) J' A' W') e
+      subst (λ m. PlayMeans (Ok to) (makes m program c count J A W) J' A' W') e
       (record { next_is = refl; kept = M.kept; told = a ∙ ap (pasted A (7 * count)) M.told; clear = M.clear })
 
 module _ (program s : List ℕ) (at count : ℕ) (J A W : List ℕ) where
-  pub turn-ends : (x : Step) → steps.End ≡ x → PlayMeans (moves.Stop (replies.Played count)) (turn_of program s x at count J A W) J A W
+  pub turn_breaks : (x : Step) → steps.Malformed ≡ x → PlayMeans (Err (errors.Malformed at)) (turn_of program s x at count J A W) J A W
   unfolding turn_of
-  turn-ends x e = subst (λ x. PlayMeans (moves.Stop (replies.Played count)) (turn_of program s x at count J A W) J A W) e
+  turn_breaks x e = subst (λ x. PlayMeans (Err (errors.Malformed at)) (turn_of program s x at count J A W) J A W) e
       (record { next_is = refl; kept = refl; told = refl; clear = refl })
 
-  pub turn_breaks : (x : Step) → steps.Malformed ≡ x → PlayMeans (moves.Stop (replies.Malformed at)) (turn_of program s x at count J A W) J A W
-  unfolding turn_of
-  turn_breaks x e = subst (λ x. PlayMeans (moves.Stop (replies.Malformed at)) (turn_of program s x at count J A W) J A W) e
-      (record { next_is = refl; kept = refl; told = refl; clear = refl })
-
-  pub turn-plays : (m : Move) (p : Part) (x : Step) (J' A' W' : List ℕ) → steps.Play p ≡ x
+  pub turn-plays : (m : Outcome ℕ ReplayError) (p : Part) (x : Step) (J' A' W' : List ℕ) → steps.Play p ≡ x
       → PlayMeans m (makes (tested p.n at p.next J) program (call_of (length W) s p) count J A W) J' A' W'
       → PlayMeans m (turn_of program s x at count J A W) J' A' W'
   unfolding turn_of
@@ -118,14 +118,14 @@ module _ (program s : List ℕ) (at count : ℕ) (J A W : List ℕ) where
   ----------------------------------------------------------------
   -- The calls in turn
 
-  pub play-stops : (room : ℕ) (r : ReplayAnswer) (J' A' W' : List ℕ) → PlayMeans (moves.Stop r) (turn_of program s (step_at s at) at count J A W) J' A' W'
-      → ReplayMeans r (play (suc room) program s at count J A W) J' A' W'
+  pub play-stops : (room : ℕ) (r : ReplayError) (J' A' W' : List ℕ) → PlayMeans (Err r) (turn_of program s (step_at s at) at count J A W) J' A' W'
+      → ReplayMeans (Err r) (play (suc room) program s at count J A W) J' A' W'
   unfolding play
   play-stops room r J' A' W' T =
-      let e : (turn_of program s (step_at s at) at count J A W).next ≡ halts (reply_of r) = sym T.next_is in
+      let e : (turn_of program s (step_at s at) at count J A W).next ≡ halts (reply_of (Err r)) = sym T.next_is in
       rw (e, play) (record { answer = refl; kept = T.kept; told = T.told; clear = T.clear })
 
-  pub play-goes : (room next : ℕ) (J' A' W' : List ℕ) → PlayMeans (moves.To next) (turn_of program s (step_at s at) at count J A W) J' A' W'
+  pub play-goes : (room next : ℕ) (J' A' W' : List ℕ) → PlayMeans (Ok next) (turn_of program s (step_at s at) at count J A W) J' A' W'
       → play (suc room) program s at count J A W ≡ play room program s next (count + 1) J' A' W'
   unfolding play
   play-goes room next J' A' W' T =
@@ -136,8 +136,20 @@ module _ (program s : List ℕ) (at count : ℕ) (J A W : List ℕ) where
   unfolding step_at
   step-ends h = let z : length s - at ≡ 0 = omega arith in simp (eq-eqb (length s - at) 0 z)
 
-  pub play-ends : (room : ℕ) → length s ≤ at → ReplayMeans (replies.Played count) (play (suc room) program s at count J A W) J A W
-  play-ends room h = play-stops room (replies.Played count) J A W (turn-ends (step_at s at) (step-ends h))
+  -- what stands there, and the calls behind it
+  plays_by : Step → ℕ → Result
+  unfolding turn_of
+  plays_by x room =
+      let t = turn_of program s x at count J A W in
+      elim t.next [
+        | halts r ↦ ends r t.journal t.answers t.workspace
+        | on next ↦ play room program s next (count + 1) t.journal t.answers t.workspace
+      ]
+
+  pub play-ends : (room : ℕ) → length s ≤ at → ReplayMeans (Ok count) (play (suc room) program s at count J A W) J A W
+  unfolding play turn_of plays_by
+  play-ends room h =
+      subst (λ x. ReplayMeans (Ok count) (plays_by x room) J A W) (step-ends h) (record { answer = refl; kept = refl; told = refl; clear = refl })
 
 ----------------------------------------------------------------
 -- The loop
@@ -168,18 +180,18 @@ module _ (program s : List ℕ) (start : ℕ) (J₀ A₀ W₀ : List ℕ) where
     again : play (suc (length s - count)) program s at count J A W ≡ play (length s) program s start 1 J₀ A₀ W₀
     again = ap (λ r. play r program s at count J A W) (sym one_more) ∙ G.same
 
-    pub going-stops : (m : Move) (r : ReplayAnswer) (J' A' W' : List ℕ) → m ≡ moves.Stop r → PlayMeans m (turn_of program s (step_at s at) at count J A W) J' A' W'
-        → ReplayMeans r (play (length s) program s start 1 J₀ A₀ W₀) J' A' W'
+    pub going-stops : (m : Outcome ℕ ReplayError) (r : ReplayError) (J' A' W' : List ℕ) → m ≡ Err r → PlayMeans m (turn_of program s (step_at s at) at count J A W) J' A' W'
+        → ReplayMeans (Err r) (play (length s) program s start 1 J₀ A₀ W₀) J' A' W'
     going-stops m r J' A' W' e T =
-        subst (λ x. ReplayMeans r x J' A' W') again
+        subst (λ x. ReplayMeans (Err r) x J' A' W') again
         (play-stops program s at count J A W (length s - count) r J' A' W'
         (subst (λ m. PlayMeans m (turn_of program s (step_at s at) at count J A W) J' A' W') e T))
 
-    pub going-ends : length s ≤ at → ReplayMeans (replies.Played count) (play (length s) program s start 1 J₀ A₀ W₀) J A W
-    going-ends h = subst (λ x. ReplayMeans (replies.Played count) x J A W) again (play-ends program s at count J A W (length s - count) h)
+    pub going-ends : length s ≤ at → ReplayMeans (Ok count) (play (length s) program s start 1 J₀ A₀ W₀) J A W
+    going-ends h = subst (λ x. ReplayMeans (Ok count) x J A W) again (play-ends program s at count J A W (length s - count) h)
 
-    module _ (m : Move) (next : ℕ) (J' A' W' : List ℕ) (e : m ≡ moves.To next) (T : PlayMeans m (turn_of program s (step_at s at) at count J A W) J' A' W') where
-      turned : PlayMeans (moves.To next) (turn_of program s (step_at s at) at count J A W) J' A' W'
+    module _ (m : Outcome ℕ ReplayError) (next : ℕ) (J' A' W' : List ℕ) (e : m ≡ Ok next) (T : PlayMeans m (turn_of program s (step_at s at) at count J A W) J' A' W') where
+      turned : PlayMeans (Ok next) (turn_of program s (step_at s at) at count J A W) J' A' W'
       turned = subst (λ m. PlayMeans m (turn_of program s (step_at s at) at count J A W) J' A' W') e T
 
       called : Onward program s at count J A W next

@@ -3,3 +3,5 @@
 pub mod Told
 -- playing a script step by step
 pub mod Steps
+-- a script's calls in code
+pub mod Read

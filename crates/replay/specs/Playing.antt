@@ -11,8 +11,9 @@ use package.Rattle.calls.specs.Claims.{last_field}
 use package.Rattle.answers.specs.Answers.{number_of, place_of}
 use package.Rattle.replay.specs.Scripts.{pick, Placed, calls_of, parse}
 use package.Rattle.replay.specs.Lines.{line_length, lines}
-use package.Rattle.replay.specs.declared.replies.ReplayAnswer.{ReplayAnswer}
-use package.Rattle.replay.specs.declared.replies.ReplayAnswer.TheVariants as replies
+use Rattle.std.specs.Prelude.{Result as Outcome, Ok, Err}
+use package.Rattle.replay.specs.declared.replies.ReplayError.{ReplayError}
+use package.Rattle.replay.specs.declared.replies.ReplayError.TheVariants as errors
 
 ----------------------------------------------------------------
 -- Answers
@@ -32,13 +33,13 @@ pub data Reply : Type 0 where
   -- the buffer of the call at this place would cut the journal's fields; the calls before it stand played
   cut : ℕ → Reply
 
-abbrev pub reply_of : ReplayAnswer → Reply
-reply_of (replies.Played k) = played k
-reply_of (replies.Malformed at) = malformed at
-reply_of (replies.TooWide at) = too_wide at
-reply_of replies.ShortAnswers = short_answers
-reply_of (replies.Unopened r) = unopened (number_of r) (place_of r)
-reply_of (replies.Cut at) = cut at
+abbrev pub reply_of : Outcome ℕ ReplayError → Reply
+reply_of (Ok k) = played k
+reply_of (Err (errors.Malformed at)) = malformed at
+reply_of (Err (errors.TooWide at)) = too_wide at
+reply_of (Err errors.ShortAnswers) = short_answers
+reply_of (Err (errors.Unopened r)) = unopened (number_of r) (place_of r)
+reply_of (Err (errors.Cut at)) = cut at
 
 ----------------------------------------------------------------
 -- Before a call is made
@@ -125,7 +126,7 @@ replayed program script journal answers workspace =
     plays_unless program journal answers workspace (hindrance (length journal) (length answers) s.calls s.broken) s.calls
 
 -- a script was played: the answer, and what the buffers are afterwards
-pub record ReplayMeans (a : ReplayAnswer) (r : Result) (journal' answers' workspace' : List ℕ) : Type 0 where
+pub record ReplayMeans (a : Outcome ℕ ReplayError) (r : Result) (journal' answers' workspace' : List ℕ) : Type 0 where
   pub answer : reply_of a ≡ r.reply
   pub kept : journal' ≡ r.journal
   pub told : answers' ≡ r.answers

@@ -6,8 +6,8 @@ use Rattle.std.proofs.Math.Option.{Option, none, some}
 use package.Rattle.octets.specs.Numbers.{get16, get32}
 use package.Rattle.calls.specs.Book.{Call, opens, converts, rolls_back}
 use package.Rattle.replay.specs.declared.scripts.Part.{Part}
-use package.Rattle.replay.specs.declared.scripts.Step.{Step}
-use package.Rattle.replay.specs.declared.scripts.Step.TheVariants.{End, Malformed, Play}
+use package.Rattle.replay.specs.declared.scripts.Kind.{Kind}
+use package.Rattle.replay.specs.declared.scripts.Kind.TheVariants.{Open, Convert, Rollback}
 
 abbrev pub pick : {A : Type 0} → Bool → A → A → A
 pick true a b = a
@@ -35,24 +35,30 @@ rollback_bytes = 7
 ----------------------------------------------------------------
 -- One call
 
+-- what stands at a place of a script: its end, no call, or a call
+pub data Step : Type 0 where
+  End : Step
+  Malformed : Step
+  Play : Part → Step
+
 -- the call ends with the bytes whose length stands at `at`
-unfoldable pub given_at : List ℕ → ℕ → ℕ → ℕ → ℕ → ℕ → Step
-given_at s kind n fuel function at =
+unfoldable pub given_at : List ℕ → Kind → ℕ → ℕ → Step
+given_at s kind n at =
     pick (ltb (length s - (at + 2)) (get16 s at)) Malformed
-    (Play (record { kind = kind; n = n; fuel = fuel; function = function; from = at + 2; next = at + 2 + get16 s at }))
+    (Play (record { kind = kind; n = n; from = at + 2; next = at + 2 + get16 s at }))
 
 unfoldable pub open_at : List ℕ → ℕ → Step
 unfolding given_at
-open_at s at = pick (ltb (length s - at) open_bytes) Malformed (given_at s open_tag (get32 s (at + 1)) 0 0 (at + 5))
+open_at s at = pick (ltb (length s - at) open_bytes) Malformed (given_at s Open (get32 s (at + 1)) (at + 5))
 
 unfoldable pub convert_at : List ℕ → ℕ → Step
 unfolding given_at
-convert_at s at = pick (ltb (length s - at) convert_bytes) Malformed (given_at s convert_tag (get32 s (at + 1)) (get16 s (at + 5)) (get16 s (at + 7)) (at + 9))
+convert_at s at = pick (ltb (length s - at) convert_bytes) Malformed (given_at s (Convert (get16 s (at + 5)) (get16 s (at + 7))) (get32 s (at + 1)) (at + 9))
 
 unfoldable pub rollback_at : List ℕ → ℕ → Step
 rollback_at s at =
     pick (ltb (length s - at) rollback_bytes) Malformed
-    (Play (record { kind = rollback_tag; n = get32 s (at + 1); fuel = get16 s (at + 5); function = 0; from = at + rollback_bytes; next = at + rollback_bytes }))
+    (Play (record { kind = Rollback (get16 s (at + 5)); n = get32 s (at + 1); from = at + rollback_bytes; next = at + rollback_bytes }))
 
 -- what stands at a place of a script
 unfoldable pub step_at : List ℕ → ℕ → Step
@@ -68,10 +74,14 @@ abbrev pub given_of : List ℕ → Part → List ℕ
 given_of s p = take (p.next - p.from) (drop p.from s)
 
 -- the call, with a workspace of `ws` bytes
+unfoldable pub call_as : Kind → ℕ → List ℕ → Part → Call
+call_as Open ws s p = opens (given_of s p) ws p.n
+call_as (Convert fuel function) ws s p = converts function (given_of s p) fuel ws p.n
+call_as (Rollback fuel) ws s p = rolls_back fuel ws p.n
+
 unfoldable pub call_of : ℕ → List ℕ → Part → Call
-call_of ws s p =
-    pick (eqb p.kind open_tag) (opens (given_of s p) ws p.n)
-    (pick (eqb p.kind convert_tag) (converts p.function (given_of s p) p.fuel ws p.n) (rolls_back p.fuel ws p.n))
+unfolding call_as
+call_of ws s p = call_as p.kind ws s p
 
 ----------------------------------------------------------------
 -- All calls

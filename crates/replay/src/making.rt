@@ -6,9 +6,9 @@ ghost use Rattle.calls.specs.Claims.{last_field};
 ghost use Rattle.replay.specs.Scripts.{call_of};
 ghost use Rattle.replay.specs.Inner.Steps.{Made};
 
-use crate::scripts::Part;
+use crate::scripts::{Kind, Part};
+use crate::told;
 use crate::told::LINE;
-use crate::{scripts, told};
 
 // Zeros from a place to the end.
 pub(crate) fn clear_from(journal: &mut [u8], at: usize)
@@ -18,6 +18,7 @@ pub(crate) fn clear_from(journal: &mut [u8], at: usize)
     octets::clear(&mut journal[at..]);
 }
 
+// Kept: a function for each call, since the engine takes other arguments for each of them.
 fn make_open(
     program: &[u8],
     held: &[u8],
@@ -73,6 +74,7 @@ fn make_rollback(
 }
 
 // The call that a script's part says, and the line that answers it.
+#[tactic(auto, unfolding(crate::specs::Scripts::call_of, crate::specs::Scripts::call_as))]
 pub(crate) fn make(
     program: &[u8],
     script: &[u8],
@@ -84,29 +86,22 @@ pub(crate) fn make(
     requires n_in_bounds { part.n ≤ length journal.old }
     ensures { Made program.now (call_of (length workspace.old) script.now part) journal.old workspace.old result journal.new workspace.new }
 {
-    let kind = part.kind;
-    let n = part.n;
-    let fuel = part.fuel;
-    let function = part.function;
-    let from = part.from;
-    let end = part.next;
-    let given = &script[from..end];
-    if kind == scripts::OPEN {
-        return make_open(program, given, n, workspace, journal);
+    let given = &script[part.from..part.next];
+    match part.kind {
+        Kind::Open => make_open(program, given, part.n, workspace, journal),
+        Kind::Convert { fuel, function } => {
+            make_convert(program, function, given, fuel, part.n, workspace, journal)
+        }
+        Kind::Rollback { fuel } => make_rollback(program, fuel, part.n, workspace, journal),
     }
-    if kind == scripts::CONVERT {
-        return make_convert(program, function, given, fuel, n, workspace, journal);
-    }
-    make_rollback(program, fuel, n, workspace, journal)
 }
 
 // The end of the journal's last field, or of the buffer where it has not the journal's form.
 pub(crate) fn last_field(journal: &[u8]) -> usize
     ensures { result ≡ last_field journal.now }
 {
-    let found = journal::form::survey(journal);
-    match found {
-        journal::places::Survey::Malformed => journal.len(),
-        journal::places::Survey::Form(pl) => pl.end,
+    match journal::form::survey(journal) {
+        Some(places) => places.end,
+        None => journal.len(),
     }
 }

@@ -1,5 +1,5 @@
 // Playing a script (specs/Playing). What the functions below `replay` promise: specs/Inner/Steps.
-ghost use Rattle.std.specs.Prelude.{◌≡◌, ◌+◌, ◌*◌, ◌≤◌, length};
+ghost use Rattle.std.specs.Prelude.{◌≡◌, ◌+◌, ◌*◌, ◌≤◌, ◌<◌, length};
 ghost use Rattle.answers.specs.Answers.{check_answer};
 ghost use Rattle.replay.specs.Scripts.{step_at, call_of, parse};
 ghost use Rattle.replay.specs.Lines.{line_length};
@@ -7,67 +7,51 @@ ghost use Rattle.replay.specs.Booked.{Booked};
 ghost use Rattle.replay.specs.Playing.{reply_of, replayed, ReplayMeans};
 ghost use Rattle.replay.specs.Inner.Steps.{next_of, stop_of, hinders, room_for, tested, begins_at, makes, turn_of, play, follows, begins, Ahead, PlayMeans};
 
-use crate::replies::{Move, ReplayAnswer};
-use crate::scripts::{Part, Step};
+use crate::replies::{Move, ReplayAnswer, ReplayError};
+use crate::scripts::{Kind, Part};
 use crate::told::LINE;
 use crate::{making, scripts, told};
 use answers::CheckAnswer;
 
-// Is there room for the call at a place, with a buffer of `n` bytes, and for its line?
-fn fits(n: usize, at: usize, next: usize, count: usize, width: usize, room: usize) -> Move
+// Is there room for the call at a place, with its buffer, and for its line?
+#[tactic(auto, unfolding(crate::specs::Inner::Steps::room_for))]
+fn fits(part: Part, at: usize, count: usize, width: usize, room: usize) -> Move
     requires { line_length * count ≤ room }
-    ensures { next_of result ≡ room_for n at next count width room }
+    ensures { next_of result ≡ room_for part.n at part.next count width room }
 {
-    if width < n {
-        return Move::Stop(ReplayAnswer::TooWide(at));
+    if width < part.n {
+        return Err(ReplayError::TooWide(at));
     }
     if room - LINE * count < LINE {
-        return Move::Stop(ReplayAnswer::ShortAnswers);
+        return Err(ReplayError::ShortAnswers);
     }
-    Move::To(next)
+    Ok(part.next)
 }
 
 // Does the call's buffer leave the journal's fields whole?
-fn test(n: usize, at: usize, next: usize, journal: &[u8]) -> Move
-    ensures { next_of result ≡ tested n at next journal.now }
+#[tactic(auto, unfolding(crate::specs::Inner::Steps::tested))]
+fn test(part: Part, at: usize, journal: &[u8]) -> Move
+    ensures { next_of result ≡ tested part.n at part.next journal.now }
 {
-    let end = making::last_field(journal);
-    if n < end {
-        return Move::Stop(ReplayAnswer::Cut(at));
+    if part.n < making::last_field(journal) {
+        return Err(ReplayError::Cut(at));
     }
-    Move::To(next)
+    Ok(part.next)
 }
 
 // Reads a script to its end: how many calls it has, all whole and with room.
+// Kept: a `while` over places, since each call says where the next one stands.
 fn read_all(script: &[u8], width: usize, room: usize) -> Move
     ensures { stop_of result ≡ hinders width room (parse 0 script.now) }
 {
     let mut at: usize = 0;
     let mut count: usize = 0;
     while at < script.len() {
-        let step = scripts::step_at(script, at);
-        match step {
-            Step::End => {
-                return Move::To(count);
-            }
-            Step::Malformed => {
-                return Move::Stop(ReplayAnswer::Malformed(at));
-            }
-            Step::Play(part) => {
-                let fit = fits(part.n, at, part.next, count, width, room);
-                match fit {
-                    Move::Stop(answer) => {
-                        return Move::Stop(answer);
-                    }
-                    Move::To(next) => {
-                        at = next;
-                        count += 1;
-                    }
-                }
-            }
-        }
+        let part = scripts::step_at(script, at)?;
+        at = fits(part, at, count, width, room)?;
+        count += 1;
     }
-    Move::To(count)
+    Ok(count)
 }
 
 // The call that a script's part says, if it may be made; its line is the answers' line number `count`.
@@ -85,17 +69,10 @@ fn turn(
     requires n_in_bounds { (part.n ≤ length journal.old) × (line_length * count + line_length ≤ length answers.old) }
     ensures { PlayMeans result (makes (tested part.n at part.next journal.old) program.now (call_of (length workspace.old) script.now part) count journal.old answers.old workspace.old) journal.new answers.new workspace.new }
 {
-    let n = part.n;
-    let next = part.next;
-    let tested = test(n, at, next, journal);
-    match tested {
-        Move::Stop(answer) => Move::Stop(answer),
-        Move::To(to) => {
-            let line = making::make(program, script, part, workspace, journal);
-            octets::copy(answers, LINE * count, &line);
-            Move::To(to)
-        }
-    }
+    let next = test(part, at, journal)?;
+    let line = making::make(program, script, part, workspace, journal);
+    octets::copy(answers, LINE * count, &line);
+    Ok(next)
 }
 
 // What stands at a place, played.
@@ -108,17 +85,14 @@ fn turn_at(
     journal: &mut [u8],
     answers: &mut [u8],
 ) -> Move
-    requires { Ahead script.now (length journal.old) (length answers.old) at count }
+    requires inside { at < length script.now }
+    requires ahead { Ahead script.now (length journal.old) (length answers.old) at count }
     ensures { PlayMeans result (turn_of program.now script.now (step_at script.now at) at count journal.old answers.old workspace.old) journal.new answers.new workspace.new }
 {
-    let step = scripts::step_at(script, at);
-    match step {
-        Step::End => Move::Stop(ReplayAnswer::Played(count)),
-        Step::Malformed => Move::Stop(ReplayAnswer::Malformed(at)),
-        Step::Play(part) => turn(
-            program, script, part, at, count, workspace, journal, answers,
-        ),
-    }
+    let part = scripts::step_at(script, at)?;
+    turn(
+        program, script, part, at, count, workspace, journal, answers,
+    )
 }
 
 // The calls behind the first.
@@ -135,19 +109,12 @@ fn play_on(
 {
     let mut at = start;
     let mut count: usize = 1;
+    // Kept: a `while` over places, as in `read_all`.
     while at < script.len() {
-        let moved = turn_at(program, script, at, count, workspace, journal, answers);
-        match moved {
-            Move::Stop(answer) => {
-                return answer;
-            }
-            Move::To(next) => {
-                at = next;
-                count += 1;
-            }
-        }
+        at = turn_at(program, script, at, count, workspace, journal, answers)?;
+        count += 1;
     }
-    ReplayAnswer::Played(count)
+    Ok(count)
 }
 
 // What follows the first open's answer.
@@ -164,17 +131,10 @@ fn opened_on(
     requires ahead { Ahead script.now (length journal.old) (length answers.old) part.next 1 }
     ensures { ReplayMeans result (follows (check_answer answer) program.now script.now part journal.old answers.old workspace.old) journal.new answers.new workspace.new }
 {
-    let n = part.n;
-    let next = part.next;
-    match answer {
-        CheckAnswer::Refused(r) => ReplayAnswer::Unopened(r),
-        CheckAnswer::Accepted => {
-            making::clear_from(journal, n);
-            let line = told::open_line(CheckAnswer::Accepted);
-            octets::copy(answers, 0, &line);
-            play_on(program, script, next, workspace, journal, answers)
-        }
-    }
+    answer?;
+    making::clear_from(journal, part.n);
+    octets::copy(answers, 0, &told::open_line(Ok(())));
+    play_on(program, script, part.next, workspace, journal, answers)
 }
 
 // The first call: an open.
@@ -191,14 +151,11 @@ fn begin(
     requires ahead { Ahead script.now (length journal.old) (length answers.old) part.next 1 }
     ensures { ReplayMeans result (begins program.now script.now part journal.old answers.old workspace.old) journal.new answers.new workspace.new }
 {
-    let kind = part.kind;
+    let Kind::Open = part.kind else {
+        return Err(ReplayError::Malformed(0));
+    };
     let n = part.n;
-    let from = part.from;
-    let end = part.next;
-    if kind != scripts::OPEN {
-        return ReplayAnswer::Malformed(0);
-    }
-    let held = &script[from..end];
+    let held = &script[part.from..part.next];
     let answer = engine::open(program, held, workspace, &mut journal[..n]);
     opened_on(answer, program, script, part, workspace, journal, answers)
 }
@@ -214,12 +171,11 @@ fn start(
     requires { Ahead script.now (length journal.old) (length answers.old) 0 0 }
     ensures { ReplayMeans result (begins_at (step_at script.now 0) program.now script.now journal.old answers.old workspace.old) journal.new answers.new workspace.new }
 {
-    let step = scripts::step_at(script, 0);
-    match step {
-        Step::End => ReplayAnswer::Malformed(0),
-        Step::Malformed => ReplayAnswer::Malformed(0),
-        Step::Play(part) => begin(program, script, part, workspace, journal, answers),
+    if script.is_empty() {
+        return Err(ReplayError::Malformed(0));
     }
+    let part = scripts::step_at(script, 0)?;
+    begin(program, script, part, workspace, journal, answers)
 }
 
 // Plays a script: its calls, in order, on the program, the workspace and the journal's buffer, a line of the answers for each. It is
@@ -234,9 +190,6 @@ pub fn replay(
     ensures result { ReplayMeans result (replayed program.now script.now journal.old answers.old workspace.old) journal.new answers.new workspace.new }
     ensures book { Booked program.now script.now journal.old answers.old workspace.old journal.new answers.new workspace.new (reply_of result) }
 {
-    let read = read_all(script, journal.len(), answers.len());
-    match read {
-        Move::Stop(answer) => answer,
-        Move::To(_) => start(program, script, workspace, journal, answers),
-    }
+    read_all(script, journal.len(), answers.len())?;
+    start(program, script, workspace, journal, answers)
 }

@@ -1,10 +1,12 @@
 // What playing a script answers.
+ghost use Rattle.std.specs.Prelude.{◌≡◌};
+ghost use Rattle.replay.specs.declared.replies.ReplayError.TheVariants.{Unopened};
+
 use answers::Refusal;
 
-// How many calls were played; or why the playing stopped, with the place in the script.
-#[derive(Drop)]
-pub enum ReplayAnswer {
-    Played(usize),
+// Why the playing did not start, or stopped, with the place in the script.
+#[derive(Clone, Copy, PartialEq, Eq, Debug)]
+pub enum ReplayError {
     Malformed(usize),
     TooWide(usize),
     ShortAnswers,
@@ -12,9 +14,17 @@ pub enum ReplayAnswer {
     Cut(usize),
 }
 
-// What comes next: an end, or the call at a place.
-#[derive(Drop)]
-pub enum Move {
-    Stop(ReplayAnswer),
-    To(usize),
+// A first open that is refused.
+impl From<Refusal> for ReplayError {
+    ghost from_gives = { λ r e. e ≡ Unopened r };
+
+    fn from(r: Refusal) -> ReplayError {
+        ReplayError::Unopened(r)
+    }
 }
+
+// How many calls were played, all of them.
+pub type ReplayAnswer = Result<usize, ReplayError>;
+
+// The place of the call that comes next, or an end.
+pub type Move = Result<usize, ReplayError>;

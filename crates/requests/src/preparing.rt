@@ -8,5 +8,5 @@ use rules::{WORKSPACE_BASE, WORKSPACE_PER_FUEL};
 pub fn enough(n: usize, fuel: u16) -> bool
     ensures { result ≡ leb (workspace_for fuel) n }
 {
-    WORKSPACE_BASE + WORKSPACE_PER_FUEL * octets::wide_index(fuel) <= n
+    WORKSPACE_BASE + WORKSPACE_PER_FUEL * usize::from(fuel) <= n
 }

@@ -13,7 +13,6 @@ use package.Rattle.calls.specs.Entries.{type_at}
 use package.Rattle.calls.specs.Values.{value, ancillae}
 use package.Rattle.calls.specs.Runs.{ran, returns}
 use package.Rattle.calls.proofs.Runs.Calls.{back}
-use package.Rattle.answers.specs.declared.RunAnswer.{RunAnswer}
 use package.Rattle.program.specs.Programs.{program_in, function_in}
 use package.Rattle.decoded.specs.Decoding.{Decodes}
 use package.Rattle.valuegraph.specs.Nodes.{value_at}
@@ -24,7 +23,8 @@ use package.Rattle.scopes.proofs.Views.{view_at, view_bound}
 use package.Rattle.forward.specs.Ready.{values_at}
 use package.Rattle.forward.proofs.Lending.{slots-full}
 use package.Rattle.backward.specs.declared.outcomes.Refusal.{Refusal}
-use package.Rattle.backward.specs.declared.start.Input.{Input}
+use Rattle.std.specs.Prelude.{Result, Ok}
+use package.Rattle.backward.specs.Calls.{input_in}
 use package.Rattle.backward.specs.Outcomes.{Status, Done, Refused, status_of, scope_view, outcome_of, refusal_of}
 use package.Rattle.backward.specs.Scoped.{Bodies}
 use package.Rattle.backward.specs.Calls.{Collected, values_scope, Starts, returned, Returns as Ran, StartsIn, ReturnsIn}
@@ -37,6 +37,7 @@ use package.Rattle.runs.specs.Ended.{Shaped, Means, Gives}
 use package.Rattle.runs.specs.Back.{Returnable, input_of, Undone, Returns}
 use package.Rattle.runs.proofs.Loads.{values_same}
 use package.Rattle.runs.proofs.Starts.{admits, rows, in_rows, as_many, few-arguments, nodes_room, nodes_cells, same-program, same-function, shaped_of}
+use package.Rattle.runs.specs.Ended.{RunAnswer}
 
 ----------------------------------------------------------------
 -- Evaluation
@@ -85,9 +86,9 @@ module _ {xs terms functions heap : List ℕ} {g : ℕ} {anc bytes : List ℕ} {
       value = rw q (B.held start.count (omega arith));
     }
 
-    module _ (r : Input) {heap'' slots'' : List ℕ} {m' : Machine}
+    module _ (r : Result ℕ Refusal) {heap'' slots'' : List ℕ} {m' : Machine}
         (d : Ran code heap' heap'' slots' slots'' st (scope_view slots' (values_scope start.count)) start.count g node max_height
-        (record { out = outcome_of r.stop slots'' m' (values_scope start.count); newest = r.node })) where
+        (record { out = outcome_of r slots'' m' (values_scope start.count); newest = input_in r })) where
       values : values_at heap' (slots_from slots' 0 max_variables) 0 start.count ≡ values_in anc
       unfolding max_parameters
       values =
@@ -97,7 +98,7 @@ module _ {xs terms functions heap : List ℕ} {g : ℕ} {anc bytes : List ℕ} {
       value_is : value_at heap' node ≡ value_in bytes
       value_is = ap (value_at heap') q ∙ B.last
 
-      answers : (types : List ℕ) → input_of heap'' (status_of r.stop) r.node m'
+      answers : (types : List ℕ) → input_of heap'' (status_of r) (input_in r) m'
           ≡ run_backward fits (program_in xs types terms functions) max_height (function_in xs types terms (get_or functions g 0)) (values_in anc) (value_in bytes) fuel
       answers types =
           d.answer (map (type_at xs) types)
@@ -108,7 +109,7 @@ module _ {xs terms functions heap : List ℕ} {g : ℕ} {anc bytes : List ℕ} {
           ∙ ap (run_backward fits (program_in xs types terms functions) max_height (function_in xs types terms (get_or functions g 0))
           (values_in anc) (value_in bytes)) e
 
-      undone : Undone xs terms functions heap'' g anc bytes fuel (status_of r.stop) r.node m'
+      undone : Undone xs terms functions heap'' g anc bytes fuel (status_of r) (input_in r) m'
       undone = record {
         graph = d.moves.graph;
         there = d.there;
@@ -140,16 +141,21 @@ module _ {xs terms functions heap : List ℕ} {g : ℕ} {anc bytes : List ℕ} {
     space = omega (arith, few-arguments R D B.begun);
   }
 
-  pub undo_told : {heap'' st₂ : List ℕ} {r : Input} {t' f' : ℕ} → ReturnsIn code heap' heap'' st₁ st₂ start.count g node max_height r
+  pub undo_told : {heap'' st₂ : List ℕ} {r : Result ℕ Refusal} {t' f' : ℕ} → ReturnsIn code heap' heap'' st₁ st₂ start.count g node max_height r
       → t' ≡ (machine_of st₂).top → f' ≡ (machine_of st₂).fuel
-      → Undone xs terms functions heap'' g anc bytes fuel (status_of r.stop) r.node (machine_of (t' ∷ f' ∷ []))
+      → Undone xs terms functions heap'' g anc bytes fuel (status_of r) (input_in r) (machine_of (t' ∷ f' ∷ []))
   undo_told {heap''} {st₂} {r} d et ef =
-      subst (Undone xs terms functions heap'' g anc bytes fuel (status_of r.stop) r.node) (ap₂ (λ t f. record { top = t; fuel = f }) (sym et) (sym ef))
+      subst (Undone xs terms functions heap'' g anc bytes fuel (status_of r) (input_in r)) (ap₂ (λ t f. record { top = t; fuel = f }) (sym et) (sym ef))
       (undone R D B.begun e l q' r
       (subst (λ slots. Ran code heap' heap'' slots (slots_of st₂) machine (scope_view slots (values_scope start.count)) start.count g node max_height
-      (record { out = outcome_of r.stop (slots_of st₂) (machine_of st₂) (values_scope start.count); newest = r.node })) M.slots
+      (record { out = outcome_of r (slots_of st₂) (machine_of st₂) (values_scope start.count); newest = input_in r })) M.slots
       (subst (λ m. Ran code heap' heap'' (slots_of st₁) (slots_of st₂) m (scope_view (slots_of st₁) (values_scope start.count)) start.count g node max_height
-      (record { out = outcome_of r.stop (slots_of st₂) (machine_of st₂) (values_scope start.count); newest = r.node })) M.machine d.returns)))
+      (record { out = outcome_of r (slots_of st₂) (machine_of st₂) (values_scope start.count); newest = input_in r })) M.machine d.returns)))
+
+-- the node of the input
+pub given : {xs terms functions heap' : List ℕ} {g : ℕ} {anc bytes : List ℕ} {fuel : ℕ} {s : Status} {r : Result ℕ Refusal} {node : ℕ} {st : Machine}
+    → r ≡ Ok node → Undone xs terms functions heap' g anc bytes fuel s (input_in r) st → Undone xs terms functions heap' g anc bytes fuel s node st
+given e U = rw e at U
 
 ----------------------------------------------------------------
 -- The answer

@@ -12,7 +12,7 @@ use package.Rattle.calls.specs.Answer.{accepted, refused, ◌>>=◌, require}
 use package.Rattle.calls.specs.Runs.{Ran, ran, written}
 use package.Rattle.calls.proofs.Answer.{overwritten-pasted}
 use package.Rattle.answers.specs.declared.Refusal.TheVariants.{Fuel, Height, Long, FirstMatch, NoInput, Output}
-use package.Rattle.answers.specs.declared.RunAnswer.TheVariants as runs
+use Rattle.std.specs.Prelude.{Ok, Err}
 use package.Rattle.answers.specs.Answers.{summary, accepts}
 use package.Rattle.answers.proofs.Answers.{refused_later}
 use package.Rattle.valuegraph.specs.Nodes.{node_bytes, length_at, value_at}
@@ -46,7 +46,7 @@ module _ {heap : List ℕ} {node fuel left : ℕ} (G : Gives heap node fuel left
       abbrev answer : Ran
       answer = record { value = value_at heap node; steps = fuel - left }
 
-      pub give-short : {i : ℕ} → i ≡ len → length out < i → Means (runs.Refused Output) out out (ran fuel (ok (value_at heap node) left))
+      pub give-short : {i : ℕ} → i ≡ len → length out < i → Means (Err Output) out out (ran fuel (ok (value_at heap node) left))
       unfolding ran written ◌>>=◌
       give-short q h = record { answer = ap summary (sym short); later = refused_later Output (omega arith); output = ap (λ x. written x out) (sym short) }
         where
@@ -62,7 +62,7 @@ module _ {heap : List ℕ} {node fuel left : ℕ} (G : Gives heap node fuel left
         filled = overwritten-pasted out (encode (value_at heap node))
 
         pub give_done : {out' : List ℕ} {next steps : ℕ} → StoreDone heap node out out' 0 next → steps ≡ fuel - left
-            → Means (runs.Ran (record { len = len; steps = steps })) out out' (ran fuel (ok (value_at heap node) left))
+            → Means (Ok (record { len = len; steps = steps })) out out' (ran fuel (ok (value_at heap node) left))
         unfolding ran written ◌>>=◌
         give_done d s = record {
           answer = ap₂ (λ l n. accepted (l, n)) sized s ∙ ap summary (sym enough);
@@ -77,22 +77,22 @@ module _ {heap : List ℕ} {node fuel left : ℕ} (G : Gives heap node fuel left
 -- A refusal
 
 module _ (out : List ℕ) (fuel : ℕ) {w : Refusal} {t : ℕ} where
-  pub refused-fuel : w ≡ why.Fuel t → Means (runs.Refused (Fuel t)) out out (ran fuel (refusal_of w))
+  pub refused-fuel : w ≡ why.Fuel t → Means (Err (Fuel t)) out out (ran fuel (refusal_of w))
   unfolding ran refusal_of finished ◌>>=◌ written
   refused-fuel e = rw e (record { answer = refl; later = refused_later (Fuel t) (omega arith); output = refl })
 
-  pub refused-height : w ≡ why.Height t → Means (runs.Refused (Height t)) out out (ran fuel (refusal_of w))
+  pub refused-height : w ≡ why.Height t → Means (Err (Height t)) out out (ran fuel (refusal_of w))
   unfolding ran refusal_of finished ◌>>=◌ written
   refused-height e = rw e (record { answer = refl; later = refused_later (Height t) (omega arith); output = refl })
 
-  pub refused-long : w ≡ why.Long t → Means (runs.Refused (Long t)) out out (ran fuel (refusal_of w))
+  pub refused-long : w ≡ why.Long t → Means (Err (Long t)) out out (ran fuel (refusal_of w))
   unfolding ran refusal_of finished ◌>>=◌ written
   refused-long e = rw e (record { answer = refl; later = refused_later (Long t) (omega arith); output = refl })
 
-  pub refused_match : w ≡ why.FirstMatch t → Means (runs.Refused (FirstMatch t)) out out (ran fuel (refusal_of w))
+  pub refused_match : w ≡ why.FirstMatch t → Means (Err (FirstMatch t)) out out (ran fuel (refusal_of w))
   unfolding ran refusal_of finished ◌>>=◌ written
   refused_match e = rw e (record { answer = refl; later = refused_later (FirstMatch t) (omega arith); output = refl })
 
-  pub refused_input : w ≡ why.NoInput t → Means (runs.Refused (NoInput t)) out out (ran fuel (refusal_of w))
+  pub refused_input : w ≡ why.NoInput t → Means (Err (NoInput t)) out out (ran fuel (refusal_of w))
   unfolding ran refusal_of finished ◌>>=◌ written
   refused_input e = rw e (record { answer = refl; later = refused_later (NoInput t) (omega arith); output = refl })

@@ -9,7 +9,6 @@ use package.Rattle.rules.specs.Machine.{run_forward}
 use package.Rattle.calls.specs.Entries.{type_at}
 use package.Rattle.calls.specs.Values.{value, ancillae}
 use package.Rattle.calls.proofs.Runs.Calls.{onward}
-use package.Rattle.answers.specs.declared.RunAnswer.{RunAnswer}
 use package.Rattle.program.specs.Programs.{program_in, function_in}
 use package.Rattle.decoded.specs.Rows.{body_in}
 use package.Rattle.decoded.specs.Decoding.{Decodes}
@@ -30,13 +29,14 @@ use package.Rattle.rules.specs.Run.{Res, ok}
 use package.Rattle.calls.specs.Runs.{ran, goes}
 use package.Rattle.valuegraph.proofs.Heaps.{heap_down}
 use package.Rattle.forward.specs.declared.outcomes.Refusal.{Refusal}
-use package.Rattle.forward.specs.declared.outcomes.Status.TheVariants.{Value, Refused}
+use Rattle.std.specs.Prelude.{Result, Ok, Err}
 use package.Rattle.forward.proofs.Runs.{meaning-value, meaning-refused}
 use package.Rattle.backward.specs.declared.outcomes.Refusal.{Refusal as Carried}
 use package.Rattle.backward.specs.Outcomes.{refusal_of, carried}
 use package.Rattle.backward.proofs.Runs.{carried-means}
 use package.Rattle.runs.specs.Ended.{Shaped, Means, Gives}
 use package.Rattle.runs.proofs.Starts.{admits, rows, in_rows, few-arguments, nodes_room, nodes-small, nodes-answer, same-program, same-function, shaped_of}
+use package.Rattle.runs.specs.Ended.{RunAnswer}
 
 ----------------------------------------------------------------
 -- Evaluation
@@ -128,17 +128,23 @@ module _ {xs terms functions heap : List ℕ} {g : ℕ} {anc bytes : List ℕ} {
       → Evaluated xs terms functions heap heap'' g anc bytes fuel (out_of r (t' ∷ f' ∷ []))
   eval_told {st₂ = st₂} {r} d et ef = left_over r st₂ (eval_done d) et ef
 
+-- what the answer says
+pub told : {xs terms functions heap heap' : List ℕ} {g : ℕ} {anc bytes : List ℕ} {fuel : ℕ} {st : Machine} {s s' : Result ℕ Refusal} → s ≡ s'
+    → Evaluated xs terms functions heap heap' g anc bytes fuel (record { status = s'; state = st })
+    → Evaluated xs terms functions heap heap' g anc bytes fuel (record { status = s; state = st })
+told e E = rw e E
+
 ----------------------------------------------------------------
 -- The answer
 
 module _ {xs terms functions heap heap' : List ℕ} {g : ℕ} {anc bytes : List ℕ} {fuel : ℕ} {r : Out} (E : Evaluated xs terms functions heap heap' g anc bytes fuel r) where
-  pub gives : {n : ℕ} → r.status ≡ Value n → Gives heap' n fuel r.state.fuel
+  pub gives : {n : ℕ} → r.status ≡ Ok n → Gives heap' n fuel r.state.fuel
   gives {n} e = record { right = heap_down (n + 1) (omega (arith, E.node n e)) E.graph.right; less = E.spends }
 
-  means-refused : {w : Refusal} {why : Carried} → r.status ≡ Refused w → why ≡ carried w → meaning heap' r ≡ refusal_of why
+  means-refused : {w : Refusal} {why : Carried} → r.status ≡ Err w → why ≡ carried w → meaning heap' r ≡ refusal_of why
   means-refused {w} e c = meaning-refused heap' r e ∙ carried-means w ∙ ap refusal_of (sym c)
 
-  pub shaped : {w : Refusal} {why : Carried} → r.status ≡ Refused w → why ≡ carried w → Shaped why
+  pub shaped : {w : Refusal} {why : Carried} → r.status ≡ Err w → why ≡ carried w → Shaped why
   shaped {why = why} e c = shaped_of why λ s. E.shaped (means-refused e c ∙ s)
 
   module _ {a : RunAnswer} {out out' : List ℕ} where
@@ -146,9 +152,9 @@ module _ {xs terms functions heap heap' : List ℕ} {g : ℕ} {anc bytes : List 
     unfolding goes
     goes_as e m = record { means = λ types. subst (λ x. Means a out out' (ran fuel x)) (sym e ∙ E.answer types) m }
 
-    pub goes-value : {n : ℕ} → r.status ≡ Value n → Means a out out' (ran fuel (ok (value_at heap' n) r.state.fuel)) → Goes a xs terms functions g anc bytes fuel out out'
+    pub goes-value : {n : ℕ} → r.status ≡ Ok n → Means a out out' (ran fuel (ok (value_at heap' n) r.state.fuel)) → Goes a xs terms functions g anc bytes fuel out out'
     goes-value e m = goes_as (meaning-value heap' r e) m
 
-    pub goes-refused : {w : Refusal} {why : Carried} → r.status ≡ Refused w → why ≡ carried w → Means a out out' (ran fuel (refusal_of why))
+    pub goes-refused : {w : Refusal} {why : Carried} → r.status ≡ Err w → why ≡ carried w → Means a out out' (ran fuel (refusal_of why))
         → Goes a xs terms functions g anc bytes fuel out out'
     goes-refused e c m = goes_as (means-refused e c) m

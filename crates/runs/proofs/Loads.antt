@@ -21,11 +21,11 @@ use package.Rattle.valuegraph.proofs.Heaps.{value-kept}
 use package.Rattle.valuegraph.proofs.Loading.{loaded-value}
 use package.Rattle.valuebytes.specs.Ends.{value_in, values_in}
 use package.Rattle.valuebytes.proofs.Walks.{Begins, walk_start, walk_done, walk_more, walk_first, walk_inside, walk_next}
-use package.Rattle.scopes.specs.Slots.{slot_count}
+use package.Rattle.scopes.specs.Slots.{slot_count, Machine, machine_of, slots_of, Moved}
 use package.Rattle.forward.specs.Ready.{Graph, values_at}
 use package.Rattle.forward.proofs.Making.{graph_later}
 use package.Rattle.runs.specs.declared.begin.Start.{Start}
-use package.Rattle.runs.specs.Begun.{start_nodes, Enough, Beginning, AncillaeLoaded, Begun}
+use package.Rattle.runs.specs.Begun.{start_nodes, Enough, Beginning, AncillaeLoaded, Begun, BegunIn, BegunWith}
 
 -- the first node, which is the unit
 first-node : {heap heap₁ : List ℕ} → Grown heap heap₁ 0 unit → Graph heap₁ 1
@@ -283,3 +283,19 @@ module _ {heap slots anc bytes : List ℕ} (B : Beginning heap slots anc bytes) 
       pub begun : {slots₂ : List ℕ} → slots₂ ≡ set slots₁ start.count (top - 1)
           → Begun heap heap' slots slots₂ anc bytes (record { count = start.count; top = top })
       begun s = rw s begun-set
+
+-- the machine is there too
+pub begun_with : {heap heap' st₀ st st' anc bytes : List ℕ} {start : Start} {f fuel : ℕ} → BegunIn heap heap' st₀ st anc bytes start
+    → Moved st st' (record { top = start.top; fuel = f }) → f ≡ fuel → BegunWith heap heap' st₀ st' anc bytes fuel start.count
+begun_with {heap} {heap'} {st₀} {st} {st'} {anc} {bytes} {start} B M e = record {
+  begun = record {
+    lengths = M.lengths ∙ B.lengths;
+    begun = subst (λ n. Begun heap heap' (slots_of st₀) (slots_of st') anc bytes (record { count = start.count; top = n }))
+        (sym (ap (λ (m : Machine). m.top) M.machine)) (subst (λ s. Begun heap heap' (slots_of st₀) s anc bytes start) (sym M.slots) B.begun);
+  };
+  left = ap (λ (m : Machine). m.fuel) M.machine ∙ e;
+}
+
+-- as those who run it have it: the numbers stay
+pub numbers_stay : (st : List ℕ) {fuel : ℕ} → (machine_of st).fuel ≡ fuel → Moved st st (record { top = (machine_of st).top; fuel = fuel })
+numbers_stay st e = record { lengths = refl; slots = refl; machine = ap (λ f. record { top = (machine_of st).top; fuel = f }) e }

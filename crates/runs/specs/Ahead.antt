@@ -1,6 +1,6 @@
 -- The run of a function forward: what it asks for, and what evaluation gives. Evaluation looks at no type, so what is said of it is said
 -- whatever the types are.
-use Rattle.std.specs.Prelude.{ℕ, ◌≤◌, ◌<◌, ◌≡◌, List, length, get_or}
+use Rattle.std.specs.Prelude.{ℕ, ◌≤◌, ◌<◌, ◌≡◌, List, length, get_or, Ok}
 use package.Rattle.rules.specs.Limits.{max_variables, max_nodes, max_height, fits}
 use package.Rattle.rules.specs.Term.{Fun}
 use package.Rattle.rules.specs.Ty.{Ty}
@@ -12,14 +12,12 @@ use package.Rattle.calls.specs.Entries.{entries_at}
 use package.Rattle.calls.specs.Named.{test_entries}
 use package.Rattle.calls.specs.Values.{value, ancillae}
 use package.Rattle.calls.specs.Runs.{workspace_for, admit, goes}
-use package.Rattle.answers.specs.declared.RunAnswer.{RunAnswer}
 use package.Rattle.program.specs.Places.{places_of, Placed}
 use package.Rattle.program.specs.Programs.{program_in, function_in}
-use package.Rattle.forward.specs.declared.outcomes.Status.TheVariants.{Value}
 use package.Rattle.forward.specs.Outcomes.{Out, meaning}
 use package.Rattle.forward.specs.Ready.{Graph}
 use package.Rattle.admission.specs.Given.{given_in}
-use package.Rattle.runs.specs.Ended.{Means}
+use package.Rattle.runs.specs.Ended.{RunAnswer, Means}
 use package.Rattle.valuebytes.specs.Ends.{value_in, values_in}
 
 ----------------------------------------------------------------
@@ -47,7 +45,7 @@ Runnable = Allowed (λ h. h.dynamic)
 -- the outcome is the rules' run of the function, and does not stick
 pub record Evaluated (xs terms functions heap heap' : List ℕ) (g : ℕ) (anc bytes : List ℕ) (fuel : ℕ) (r : Out) : Type 0 where
   pub graph : Graph heap' r.state.top
-  pub node : (n : ℕ) → r.status ≡ Value n → n < r.state.top
+  pub node : (n : ℕ) → r.status ≡ Ok n → n < r.state.top
   pub spends : r.state.fuel ≤ fuel
   pub answer : (types : List ℕ) → meaning heap' r
       ≡ run_forward fits (program_in xs types terms functions) max_height (function_in xs types terms (get_or functions g 0)) (values_in anc) (value_in bytes) fuel

@@ -5,13 +5,12 @@ use package.Rattle.rules.specs.Val.{Val}
 use package.Rattle.rules.specs.Run.{Res, stuck}
 use package.Rattle.rules.specs.Machine.{run_backward}
 use package.Rattle.calls.specs.Runs.{returns}
-use package.Rattle.answers.specs.declared.RunAnswer.{RunAnswer}
 use package.Rattle.scopes.specs.Slots.{Machine}
 use package.Rattle.forward.specs.Ready.{Graph}
 use package.Rattle.backward.specs.Outcomes.{Status, Done}
 use package.Rattle.backward.specs.Calls.{returned}
 use package.Rattle.admission.specs.Given.{given_in}
-use package.Rattle.runs.specs.Ended.{Means}
+use package.Rattle.runs.specs.Ended.{RunAnswer, Means}
 use package.Rattle.runs.specs.Ahead.{Allowed}
 use package.Rattle.program.specs.Programs.{program_in, function_in}
 use package.Rattle.valuebytes.specs.Ends.{value_in, values_in}

@@ -5,7 +5,7 @@ use package.Rattle.rules.specs.Limits.{max_parameters, max_ancilla_bytes, max_va
 use package.Rattle.rules.specs.Val.{unit}
 use package.Rattle.calls.specs.Values.{value, ancillae}
 use package.Rattle.valuegraph.specs.Nodes.{node_bytes, value_at}
-use package.Rattle.scopes.specs.Slots.{slots_of}
+use package.Rattle.scopes.specs.Slots.{slots_of, machine_of}
 use package.Rattle.forward.specs.Ready.{Graph, values_at}
 use package.Rattle.runs.specs.declared.begin.Start.{Start}
 use package.Rattle.valuebytes.specs.Ends.{value_in, values_in}
@@ -57,3 +57,8 @@ pub record AncillaeIn (heap heap' st st' anc : List ℕ) (r : Start) : Type 0 wh
 pub record BegunIn (heap heap' st st' anc bytes : List ℕ) (r : Start) : Type 0 where
   pub lengths : length st' ≡ length st
   pub begun : Begun heap heap' (slots_of st) (slots_of st') anc bytes r
+
+-- the same with the fuel `fuel` in the machine, and `count` ancillae
+pub record BegunWith (heap heap' st st' anc bytes : List ℕ) (fuel count : ℕ) : Type 0 where
+  pub begun : BegunIn heap heap' st st' anc bytes (record { count = count; top = (machine_of st').top })
+  pub left : (machine_of st').fuel ≡ fuel

@@ -1,13 +1,18 @@
 -- How a run ends (section 4, rows Run and Output): the answer, and what the output holds.
-use Rattle.std.specs.Prelude.{ℕ, ◌+◌, ◌≤◌, ◌≡◌, List, length, leb}
+use Rattle.std.specs.Prelude.{ℕ, ◌+◌, ◌≤◌, ◌≡◌, List, length, leb, Result}
 use package.Rattle.rules.specs.Val.{size}
 use package.Rattle.calls.specs.Answer.{Answer, accepted, ◌>>=◌, require}
 use package.Rattle.calls.specs.Runs.{Ran, written}
-use package.Rattle.answers.specs.declared.RunAnswer.{RunAnswer}
+use package.Rattle.answers.specs.declared.Done.{Done}
+use package.Rattle.answers.specs.declared.Refusal.{Refusal as Answered}
 use package.Rattle.answers.specs.Answers.{run_answer, summary, Later}
 use package.Rattle.valuegraph.specs.Nodes.{Heap}
 use package.Rattle.backward.specs.declared.outcomes.Refusal.{Refusal}
 use package.Rattle.backward.specs.declared.outcomes.Refusal.TheVariants as why
+
+-- what a run answers
+abbrev pub RunAnswer : Type 0
+RunAnswer = Result Done Answered
 
 -- a run's answer with row Output: 17 if the value is longer than the output
 unfoldable pub finished : ℕ → Answer Ran → Answer Ran

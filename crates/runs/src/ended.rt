@@ -14,13 +14,13 @@ pub fn give(ws: &[u8], node: u32, fuel: u16, left: u32, out: &mut [u8]) -> RunAn
     ensures { Means result out.old out.new (ran fuel (ok (value_at ws.now node) left)) }
 {
     let len = valuegraph::nodes::length_of(ws, node);
-    if out.len() < octets::wide_index(len) {
-        return RunAnswer::Refused(Refusal::Output);
+    if out.len() < usize::from(len) {
+        return Err(Refusal::Output);
     }
     valuegraph::nodes::store(ws, node, out, 0);
-    let spent = octets::wide32(fuel) - left;
+    let spent = u32::from(fuel) - left;
     let steps = spent as u16;
-    RunAnswer::Ran(Done { len, steps })
+    Ok(Done { len, steps })
 }
 
 // The run was refused, with 12 to 16.
@@ -29,12 +29,12 @@ pub fn refuse(why: outcomes::Refusal, fuel: u16, out: &mut [u8]) -> RunAnswer
     ensures { Means result out.old out.new (ran fuel (refusal_of why)) }
 {
     match why {
-        outcomes::Refusal::Fuel(t) => RunAnswer::Refused(Refusal::Fuel(t)),
-        outcomes::Refusal::Height(t) => RunAnswer::Refused(Refusal::Height(t)),
-        outcomes::Refusal::Long(t) => RunAnswer::Refused(Refusal::Long(t)),
-        outcomes::Refusal::FirstMatch(t) => RunAnswer::Refused(Refusal::FirstMatch(t)),
-        outcomes::Refusal::NoInput(t) => RunAnswer::Refused(Refusal::NoInput(t)),
+        outcomes::Refusal::Fuel(t) => Err(Refusal::Fuel(t)),
+        outcomes::Refusal::Height(t) => Err(Refusal::Height(t)),
+        outcomes::Refusal::Long(t) => Err(Refusal::Long(t)),
+        outcomes::Refusal::FirstMatch(t) => Err(Refusal::FirstMatch(t)),
+        outcomes::Refusal::NoInput(t) => Err(Refusal::NoInput(t)),
         // never met: a checked program never meets a value of wrong shape
-        outcomes::Refusal::Stuck => RunAnswer::Refused(Refusal::Output),
+        outcomes::Refusal::Stuck => Err(Refusal::Output),
     }
 }

@@ -4,12 +4,13 @@ use native.Mathlib.Omega.{arith}
 use native.Mathlib.Decide.{dec_lt}
 use mathlib.Core.Path.{◌≡◌, refl, sym, ap, ap₂, subst, ◌∙◌}
 use mathlib.Core.Bool.{Bool, true, false, true≢false}
-use mathlib.Core.Option.{Option, some}
+use mathlib.Core.Option as maybe
 use mathlib.Core.List.{List, ◌∷◌}
 use lib.ListN.{length, get_or, set}
 use lib.Seq.{get_or-set_other}
 use lib.Dec.{eqb}
 use borrow.Author.Tests.{eqb-true, eqb-false}
+use Rattle.std.specs.Prelude.{Option, Some, None}
 use package.Rattle.rules.specs.Limits.{max_variables}
 use package.Rattle.rules.specs.Val.{Val, same}
 use package.Rattle.rules.specs.Run.{Res, ok, stop, Run, after, test, give}
@@ -20,16 +21,14 @@ use package.Rattle.scopes.specs.Slots.{unknown, found, meaning, state_at}
 use package.Rattle.scopes.specs.Bindings.{View, state_of, Bound, Opens, Meets, AfterLeaving, LeavesScope}
 use package.Rattle.scopes.proofs.Marks.{found-mark, found_below, node_or_lem}
 use package.Rattle.scopes.proofs.Scopes.{length-state, state-front, state_bind}
-use Rattle.scopes.specs.declared.slots.Found.{Found}
-use Rattle.scopes.specs.declared.slots.Found.TheVariants.{Node, Unknown}
 
 ----------------------------------------------------------------
 -- Meeting a variable, as the rules have it
 
 -- what the rules' meeting gives, by what the slot says
-abbrev met : List ℕ → List ℕ → ℕ → ℕ → ℕ → ℕ → ℕ → Found → Run State
-met heap slots n i node x k Unknown = give (state_at heap (set slots i x) 0 n)
-met heap slots n i node x k (Node old) = test (same (value_at heap old) (value_at heap node)) 16 k (give (state_at heap slots 0 n))
+abbrev met : List ℕ → List ℕ → ℕ → ℕ → ℕ → ℕ → ℕ → Option ℕ → Run State
+met heap slots n i node x k None = give (state_at heap (set slots i x) 0 n)
+met heap slots n i node x k (Some old) = test (same (value_at heap old) (value_at heap node)) 16 k (give (state_at heap slots 0 n))
 
 -- a test, then one more variable in front
 test-after : (b : Bool) (k f : ℕ) {A : Type 0} (a : A) (cons : A → State) (σ : State) → cons a ≡ σ → after (test b 16 k (give a) f) (λ x. give (cons x)) ≡ test b 16 k (give σ) f
@@ -49,38 +48,38 @@ zero-plus : (n : ℕ) → 0 + n ≡ n
 zero-plus n = omega arith
 
 -- the newest variable is met
-met-newest : (heap slots : List ℕ) (n node x k f : ℕ) → n < length slots → found heap x ≡ Node node → (s : Found) → found heap (get_or slots (0 + n) 0) ≡ s
+met-newest : (heap slots : List ℕ) (n node x k f : ℕ) → n < length slots → found heap x ≡ Some node → (s : Option ℕ) → found heap (get_or slots (0 + n) 0) ≡ s
     → after (bind_or k (meaning heap s) (value_at heap node) f) (λ m. give (m ∷ state_at heap slots 0 n)) ≡ met heap slots (suc n) n node x k s f
 unfolding bind_or after
-met-newest heap slots n node x k f l fx Unknown e =
+met-newest heap slots n node x k f l fx None e =
     ap (λ σ. ok σ f)
-    (sym (subst (λ j. state_at heap (set slots j x) 0 (suc n) ≡ some (value_at heap node) ∷ state_at heap slots 0 n) (zero-plus n)
+    (sym (subst (λ j. state_at heap (set slots j x) 0 (suc n) ≡ maybe.some (value_at heap node) ∷ state_at heap slots 0 n) (zero-plus n)
     (state_bind heap slots 0 n x (let z : 0 + n ≡ n = zero-plus n in omega arith) ∙ ap (λ s. meaning heap s ∷ state_at heap slots 0 n) fx)))
-met-newest heap slots n node x k f l fx (Node old) e =
-    test-after (same (value_at heap old) (value_at heap node)) k f (some (value_at heap old)) (λ m. m ∷ state_at heap slots 0 n) (state_at heap slots 0 (suc n)) (front e)
+met-newest heap slots n node x k f l fx (Some old) e =
+    test-after (same (value_at heap old) (value_at heap node)) k f (maybe.some (value_at heap old)) (λ m. m ∷ state_at heap slots 0 n) (state_at heap slots 0 (suc n)) (front e)
   where
-    front : found heap (get_or slots (0 + n) 0) ≡ Node old → some (value_at heap old) ∷ state_at heap slots 0 n ≡ state_at heap slots 0 (suc n)
+    front : found heap (get_or slots (0 + n) 0) ≡ Some old → maybe.some (value_at heap old) ∷ state_at heap slots 0 n ≡ state_at heap slots 0 (suc n)
     front e = sym (state-front heap slots 0 n ∙ ap (λ s. meaning heap s ∷ state_at heap slots 0 n) e)
 
 -- an older variable is met
-met-older : (heap slots : List ℕ) (n i node x k f : ℕ) → i < n → (s : Found)
+met-older : (heap slots : List ℕ) (n i node x k f : ℕ) → i < n → (s : Option ℕ)
     → after (met heap slots n i node x k s f) (λ σ. give (meaning heap (found heap (get_or slots (0 + n) 0)) ∷ σ)) ≡ met heap slots (suc n) i node x k s f
 unfolding after
-met-older heap slots n i node x k f l Unknown =
+met-older heap slots n i node x k f l None =
     ap (λ σ. ok σ f) (ap (λ y. meaning heap (found heap y) ∷ state_at heap (set slots i x) 0 n)
     (sym (get_or-set_other slots i (0 + n) x 0 (λ e. omega (arith, zero-plus n)))) ∙ sym (state-front heap (set slots i x) 0 n))
-met-older heap slots n i node x k f l (Node old) =
+met-older heap slots n i node x k f l (Some old) =
     test-after (same (value_at heap old) (value_at heap node)) k f (state_at heap slots 0 n) (λ σ. meaning heap (found heap (get_or slots (0 + n) 0)) ∷ σ)
     (state_at heap slots 0 (suc n)) (sym (state-front heap slots 0 n))
 
 -- meeting variable `i` of `n`; a number that says the node binds it
-meet-state : (heap slots : List ℕ) (n i node x k f : ℕ) → i < n → n ≤ length slots → found heap x ≡ Node node
+meet-state : (heap slots : List ℕ) (n i node x k f : ℕ) → i < n → n ≤ length slots → found heap x ≡ Some node
     → meet k (state_at heap slots 0 n) i (value_at heap node) f ≡ met heap slots n i node x k (found heap (get_or slots i 0)) f
 unfolding meet state_at
 meet-state heap slots zero i node x k f l m fx = absurd (omega arith)
 meet-state heap slots (suc n) i node x k f l m fx = go (dec_lt i n) (λ l. meet-state heap slots n i node x k f l (omega arith) fx)
   where
-    newer : Option Val
+    newer : maybe.Option Val
     newer = meaning heap (found heap (get_or slots (0 + n) 0))
 
     Meeting : ℕ → Type 0
@@ -98,11 +97,11 @@ meet-state heap slots (suc n) i node x k f l m fx = go (dec_lt i n) (λ l. meet-
 
 -- What the code's meeting says, as the rules have it: the state that it hands back, or 16.
 module _ (heap : List ℕ) (b : View) (i node x top k f : ℕ) (agrees : Bool) (r : View) (M : Meets heap b i node x agrees r) (B : Bound heap b top)
-    (l : i < b.len) (small : top ≤ unknown) (fx : found heap x ≡ Node node) where
+    (l : i < b.len) (small : top ≤ unknown) (fx : found heap x ≡ Some node) where
   abbrev meeting : Res State
   meeting = meet k (state_at heap b.slots 0 b.len) i (value_at heap node) f
 
-  start : {s : Found} → found heap (get_or b.slots i 0) ≡ s → meeting ≡ met heap b.slots b.len i node x k s f
+  start : {s : Option ℕ} → found heap (get_or b.slots i 0) ≡ s → meeting ≡ met heap b.slots b.len i node x k s f
   start e = meet-state heap b.slots b.len i node x k f l (omega (arith, B.full, B.few)) fx ∙ ap (λ s. met heap b.slots b.len i node x k s f) e
 
   abbrev Met : Type 0
@@ -114,7 +113,7 @@ module _ (heap : List ℕ) (b : View) (i node x top k f : ℕ) (agrees : Bool) (
     λ n. absurd (true≢false (sym yes-it ∙ n)),
   )
 
-  comparing : (get_or b.slots i 0 ≡ unknown → ⊥) → (old : ℕ) → found heap (get_or b.slots i 0) ≡ Node old → Met
+  comparing : (get_or b.slots i 0 ≡ unknown → ⊥) → (old : ℕ) → found heap (get_or b.slots i 0) ≡ Some old → Met
   comparing u old e = given (M.compares u) λ (same-is, state).
       let tested : (y : Bool) → agrees ≡ y → meeting ≡ test y 16 k (give (state_at heap b.slots 0 b.len)) f =
       λ y z. start e ∙ ap (λ y. test y 16 k (give (state_at heap b.slots 0 b.len)) f)

@@ -7,7 +7,7 @@ use mathlib.Core.Bool.{Bool, true, false, cond}
 use mathlib.Core.List.{List}
 use lib.Dec.{eqb, ltb}
 use borrow.Author.Tests.{eq-eqb, ne_eqb, lt-ltb, le-ltb}
-use package.Rattle.valuegraph.specs.Nodes.{left_at, right_at, Agree, Celled}
+use package.Rattle.valuegraph.specs.Nodes.{left_at, right_at, Agree}
 use package.Rattle.valuegraph.proofs.Places.{agree_left, agree_right}
 use package.Rattle.scopes.specs.Slots.{unknown}
 use package.Rattle.scopes.specs.Cells.{cell_count, Linked, variable_at, before_at, cell_step, cell_within, cell_at}
@@ -156,8 +156,3 @@ module _ {heap heap' : List ℕ} {top x i head : ℕ} (C : Linked heap heap' top
 
     pub leaves_none : (j : ℕ) → i ≤ j → cell_at heap' top j ≡ 0
     leaves_none j l = leaves j ∙ ap (λ b. cond b (cell_at heap head j) 0) (le-ltb j i l)
-
--- the cell that the code makes
-pub linked : {heap heap' : List ℕ} {top t x i : ℕ} (v head : ℕ) → Celled heap heap' t x (cell_count * v + head) → t ≡ top → v ≡ i
-    → Linked heap heap' top x i head
-linked v head C e q = record { made = rw (← e, ← q) C }

@@ -13,5 +13,3 @@ pub mod Views
 pub mod Older
 -- a variable is met, in code
 pub mod Meeting
--- the numbers that a run is lent
-pub mod Lent

@@ -8,50 +8,49 @@ use mathlib.Core.List.{List}
 use lib.ListN.{get_or}
 use lib.Dec.{eqb}
 use borrow.Author.Tests.{eq-eqb, ne_eqb, eqb-true, eqb-false, lt-ltb, le-ltb}
+use Rattle.std.specs.Prelude.{Option, Some, None}
 use package.Rattle.valuegraph.specs.Nodes.{left_at, Room, Heap, Agree}
 use package.Rattle.valuegraph.proofs.Places.{agree_left}
 use package.Rattle.scopes.specs.Slots.{unknown, found, node_or, slot_at, Slot, Slots}
-use Rattle.scopes.specs.declared.slots.Found.{Found}
-use Rattle.scopes.specs.declared.slots.Found.TheVariants.{Node, Unknown}
 
 ----------------------------------------------------------------
 -- What a number says
 
-pub found-mark : (heap : List ℕ) (s : ℕ) → s ≡ unknown → found heap s ≡ Unknown
+pub found-mark : (heap : List ℕ) (s : ℕ) → s ≡ unknown → found heap s ≡ None
 unfolding found
 found-mark heap s e = rw (found, le-ltb s unknown (omega arith), eq-eqb s unknown e)
 
-pub found-node : (heap : List ℕ) (s : ℕ) → s < unknown → found heap s ≡ Node s
+pub found-node : (heap : List ℕ) (s : ℕ) → s < unknown → found heap s ≡ Some s
 unfolding found
 found-node heap s l = rw (found, lt-ltb s unknown l)
 
-pub found-cell : (heap : List ℕ) (s : ℕ) → unknown < s → found heap s ≡ Node (left_at heap (s - unknown))
+pub found-cell : (heap : List ℕ) (s : ℕ) → unknown < s → found heap s ≡ Some (left_at heap (s - unknown))
 unfolding found
 found-cell heap s l = rw (found, le-ltb s unknown (omega arith), ne_eqb s unknown (λ e. omega arith))
 
 -- a variable in scope has a node
-pub slot_in : (heap slots : List ℕ) (base n i : ℕ) → i < n → slot_at heap slots base n i ≡ Node (node_or (found heap (get_or slots (base + i) 0)))
+pub slot_in : (heap slots : List ℕ) (base n i : ℕ) → i < n → slot_at heap slots base n i ≡ Some (node_or (found heap (get_or slots (base + i) 0)))
 unfolding slot_at
 slot_in heap slots base n i l = rw (slot_at, lt-ltb i n l)
 
-pub slot-out : (heap slots : List ℕ) (base n i : ℕ) → n ≤ i → slot_at heap slots base n i ≡ Unknown
+pub slot-out : (heap slots : List ℕ) (base n i : ℕ) → n ≤ i → slot_at heap slots base n i ≡ None
 unfolding slot_at
 slot-out heap slots base n i l = rw (slot_at, le-ltb i n l)
 
 -- a variable that is known has a node
 pub found_below : {heap : List ℕ} {s top : ℕ} → Slot heap s top → top ≤ unknown → (s ≡ unknown → ⊥) → {P : Type 0}
-    → ((node : ℕ) → node < top → found heap s ≡ Node node → P) → P
+    → ((node : ℕ) → node < top → found heap s ≡ Some node → P) → P
 found_below {heap} {s} {top} S small d k =
     ⊎_elim
     (λ e. absurd (d e))
     (λ z. ⊎_elim (λ l. k s l (found-node heap s (omega arith))) (λ C. k (left_at heap (s - unknown)) C.node (found-cell heap s C.above)) z)
     S
 
-pub node_or_lem : {f : Found} {node : ℕ} → f ≡ Node node → node_or f ≡ node
+pub node_or_lem : {f : Option ℕ} {node : ℕ} → f ≡ Some node → node_or f ≡ node
 unfolding node_or
 node_or_lem e = ap node_or e
 
-pub node_none : {f : Found} → f ≡ Unknown → node_or f ≡ 0
+pub node_none : {f : Option ℕ} → f ≡ None → node_or f ≡ 0
 unfolding node_or
 node_none e = ap node_or e
 
@@ -92,6 +91,6 @@ module _ {heap heap' : List ℕ} {top : ℕ} (A : Agree top heap heap') where
       (λ e. found-mark heap s e ∙ sym (found-mark heap' s e))
       (λ z. ⊎_elim
       (λ l. found-node heap s (omega arith) ∙ sym (found-node heap' s (omega arith)))
-      (λ C. found-cell heap s C.above ∙ ap Node (agree_left A (s - unknown) C.there) ∙ sym (found-cell heap' s C.above))
+      (λ C. found-cell heap s C.above ∙ ap Some (agree_left A (s - unknown) C.there) ∙ sym (found-cell heap' s C.above))
       z)
       S

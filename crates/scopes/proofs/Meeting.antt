@@ -1,18 +1,14 @@
 -- A variable is met, in code: what its slot's number is looked up for, and the two outcomes.
 use Prim.Native.Nat.{ℕ, ◌+◌, ◌<◌}
 use native.Mathlib.Omega.{arith}
-use mathlib.Core.Path.{◌≡◌, refl, sym, ap, ap₂, subst, ◌∙◌}
-use mathlib.Core.Bool.{Bool, true}
+use mathlib.Core.Path.{◌≡◌, sym, ap, ap₂, subst, ◌∙◌}
 use mathlib.Core.List.{List}
 use lib.ListN.{get_or, set}
-use package.Rattle.rules.specs.Val.{same}
-use package.Rattle.valuegraph.specs.Nodes.{value_at}
+use Rattle.std.specs.Prelude.{Option, Some, None}
 use package.Rattle.scopes.specs.Slots.{unknown, Scope, machine_of, slots_of, node_or, Written}
 use package.Rattle.scopes.specs.Bindings.{said, seen, Looks, Adds, EntersBound, Meetable, MeetsBy, MeetsAt}
 use package.Rattle.scopes.proofs.Views.{seen_low}
 use package.Rattle.scopes.proofs.Marks.{node_or_lem}
-use Rattle.scopes.specs.declared.slots.Found.{Found}
-use Rattle.scopes.specs.declared.slots.Found.TheVariants.{Node, Unknown}
 use Rattle.scopes.specs.declared.bindings.Bindings.{Bindings}
 
 -- the number in slot base + v, where v is the variable
@@ -34,7 +30,7 @@ module _ {heap st : List ℕ} {b : Bindings} {sc : Scope} {i : ℕ} (M : Meetabl
   })
 
   -- a node that is seen is there
-  pub old-low : {f : Found} {old : ℕ} → f ≡ seen heap b s → f ≡ Node old → old < top
+  pub old-low : {f : Option ℕ} {old : ℕ} → f ≡ seen heap b s → f ≡ Some old → old < top
   unfolding node_or
   old-low q z =
       let low : node_or (seen heap b s) < top = seen_low b looks.slot looks.small (omega (arith, looks.within)) in
@@ -42,27 +38,19 @@ module _ {heap st : List ℕ} {b : Bindings} {sc : Scope} {i : ℕ} (M : Meetabl
 
 module _ (heap st : List ℕ) (b : Bindings) (sc : Scope) (i node : ℕ) (M : Meetable heap st b sc i) {base v s : ℕ} (eb : base ≡ sc.base)
     (e : v ≡ i) (n : Number st base v s)
-    {f : Found} (q : f ≡ seen heap b s) where
-  said-there : {g : Found} → f ≡ g → g ≡ said heap (slots_of st) b sc i
+    {f : Option ℕ} (q : f ≡ seen heap b s) where
+  said-there : {g : Option ℕ} → f ≡ g → g ≡ said heap (slots_of st) b sc i
   said-there z = sym z ∙ q ∙ ap (seen heap b) (number st eb e n) ∙ M.reads
 
-  pub met_compared : {old : ℕ} → f ≡ Node old → {agrees : Bool} → agrees ≡ same (value_at heap old) (value_at heap node)
-      → MeetsAt heap heap st st b sc i node (record { agrees = agrees; state = b })
-  met_compared {old} z {agrees} a = record {
-    met = subst (MeetsBy heap heap st st b sc.base i node (record { agrees = agrees; state = b })) (said-there z)
-        (record { agrees = a; heap_same = refl; numbers_same = refl; state_same = refl });
-  }
-
-  pub met-bound : {heap' st₁ st' : List ℕ} {top : ℕ} → top ≡ (machine_of st).top → f ≡ Unknown → {r : Bindings} → Adds heap heap' st st₁ b node i r
-      → Written st₁ st' (base + v) (unknown + top) → MeetsAt heap heap' st st' b sc i node (record { agrees = true; state = r })
+  pub met-bound : {heap' st₁ st' : List ℕ} {top : ℕ} → top ≡ (machine_of st).top → f ≡ None → {r : Bindings} → Adds heap heap' st st₁ b node i r
+      → Written st₁ st' (base + v) (unknown + top) → MeetsAt heap heap' st st' b sc i node (Some r)
   met-bound {heap'} {st₁} {st'} {top} t z {r} A W = record {
-    met = subst (MeetsBy heap heap' st st' b sc.base i node (record { agrees = true; state = r })) (said-there z) (record {
-      agrees = refl;
+    met = subst (MeetsBy heap heap' st st' b sc.base i node (Some r)) (said-there z) (record {
+      agrees = ap (λ h. Some (record { head = h })) A.head;
       linked = A.linked;
       lengths = W.lengths ∙ A.moved.lengths;
       slots = W.slots ∙ ap (λ s. set s (base + v) (unknown + top)) A.moved.slots ∙ rw (eb, e, t);
       machine = W.machine ∙ A.moved.machine;
-      head = A.head;
     });
   }
 

@@ -10,6 +10,7 @@ use lib.ListN.{length, get_or, set}
 use lib.Seq.{get_or-set_same, get_or-set_other}
 use lib.Dec.{eqb}
 use borrow.Author.Tests.{eqb-true, eqb-false, lt-ltb, le-ltb}
+use Rattle.std.specs.Prelude.{Some}
 use package.Rattle.valuegraph.specs.Nodes.{Heap, Agree}
 use package.Rattle.valuegraph.proofs.Places.{agree_left}
 use package.Rattle.scopes.specs.Slots.{unknown, found, meaning, Scope, Slot}
@@ -19,7 +20,6 @@ use package.Rattle.scopes.proofs.Marks.{found-mark, found-node, found-cell}
 use package.Rattle.scopes.proofs.Scopes.{meaning-kept}
 use package.Rattle.scopes.proofs.Cells.{cell-le, cell-kept}
 use package.Rattle.scopes.proofs.Views.{seen-found, seen-newer, told-dynamic}
-use Rattle.scopes.specs.declared.slots.Found.TheVariants.{Node}
 use Rattle.scopes.specs.declared.bindings.Bindings.{Bindings}
 
 -- The slots of the variables from `q` to `n` can be read in state `b`: what it sees in them is what it says.
@@ -35,7 +35,7 @@ module _ {heap heap' : List ℕ} {top : ℕ} (A : Agree top heap heap') {b : Bin
     where
       go : Dec (s < unknown) → Dec (unknown < s) → found heap s ≡ found heap' s
       go (yes l) d = found-node heap s l ∙ sym (found-node heap' s l)
-      go (no l) (yes m) = found-cell heap s m ∙ ap Node (agree_left A (s - unknown) (omega arith)) ∙ sym (found-cell heap' s m)
+      go (no l) (yes m) = found-cell heap s m ∙ ap Some (agree_left A (s - unknown) (omega arith)) ∙ sym (found-cell heap' s m)
       go (no l) (no m) = let e : s ≡ unknown = omega arith in found-mark heap s e ∙ sym (found-mark heap' s e)
 
   seen-agree : (s : ℕ) → seen heap b s ≡ seen heap' b s

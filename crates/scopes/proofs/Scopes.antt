@@ -4,12 +4,13 @@ use native.Mathlib.Omega.{arith}
 use native.Mathlib.Decide.{dec_lt}
 use mathlib.Core.Path.{◌≡◌, refl, sym, ap, ap₂, subst, ◌∙◌}
 use mathlib.Core.Bool.{Bool, true, false}
-use mathlib.Core.Option.{Option, some}
+use mathlib.Core.Option as maybe
 use mathlib.Core.List.{List, ◌∷◌}
 use lib.ListN.{length, get_or, set}
 use lib.Dec.{eqb}
 use lib.Seq.{get_or-set_same, get_or-set_other}
 use borrow.Author.Tests.{eqb-true, eqb-false}
+use Rattle.std.specs.Prelude.{Option, Some, None}
 use package.Rattle.rules.specs.Val.{Val, unit}
 use package.Rattle.rules.specs.Machine.{known, filled}
 use package.Rattle.rules.proofs.Basics.{given}
@@ -19,8 +20,6 @@ use package.Rattle.valuegraph.specs.Nodes.{value_at, Heap, Agree}
 use package.Rattle.valuegraph.proofs.Heaps.{value-kept}
 use package.Rattle.scopes.specs.Slots.{unknown, found, node_or, slot_at, meaning, state_at, Slot, Slots}
 use package.Rattle.scopes.proofs.Marks.{found-mark, found_below, found_later, slot_in, slot-out}
-use Rattle.scopes.specs.declared.slots.Found.{Found}
-use Rattle.scopes.specs.declared.slots.Found.TheVariants.{Node, Unknown}
 
 ----------------------------------------------------------------
 -- What is known of a variable
@@ -40,7 +39,7 @@ unfolding state_at
 known-within heap slots base zero i l = absurd (omega arith)
 known-within heap slots base (suc n) i l = go (dec_lt i n) (λ l. known-within heap slots base n i l)
   where
-    newer : Option Val
+    newer : maybe.Option Val
     newer = meaning heap (found heap (get_or slots (base + n) 0))
 
     go : Dec (i < n) → (i < n → known (state_at heap slots base n) i ≡ meaning heap (found heap (get_or slots (base + i) 0)))
@@ -51,10 +50,10 @@ known-within heap slots base (suc n) i l = go (dec_lt i n) (λ l. known-within h
         ∙ ap (λ i. meaning heap (found heap (get_or slots (base + i) 0))) e
 
 -- a variable that was not met is unit, and node 0 is one
-read-node : (heap : List ℕ) → value_at heap 0 ≡ unit → (f : Found) {v : Val} → Read (meaning heap f) v → v ≡ value_at heap (node_or f)
+read-node : (heap : List ℕ) → value_at heap 0 ≡ unit → (f : Option ℕ) {v : Val} → Read (meaning heap f) v → v ≡ value_at heap (node_or f)
 unfolding node_or
-read-node heap u (Node node) r = sym r
-read-node heap u Unknown r = sym r ∙ sym u
+read-node heap u (Some node) r = sym r
+read-node heap u None r = sym r ∙ sym u
 
 -- what a term that runs forward reads of a variable
 pub known-filled : (heap slots : List ℕ) (base n i : ℕ) → value_at heap 0 ≡ unit
@@ -63,7 +62,7 @@ known-filled heap slots base n i u = go (dec_lt i n)
   where
     go : Dec (i < n) → known (filled (state_at heap slots base n)) i ≡ meaning heap (slot_at heap slots base n i)
     go (yes l) = given (filled-read (state_at heap slots base n) i (omega (arith, length-state heap slots base n))) λ (v, e, r).
-        e ∙ ap some (read-node heap u (found heap (get_or slots (base + i) 0)) (subst (λ m. Read m v) (known-within heap slots base n i l) r))
+        e ∙ ap maybe.some (read-node heap u (found heap (get_or slots (base + i) 0)) (subst (λ m. Read m v) (known-within heap slots base n i l) r))
         ∙ ap (meaning heap) (sym (slot_in heap slots base n i l))
     go (no l) = known_none _ i (omega (arith, length-filled (state_at heap slots base n), length-state heap slots base n))
         ∙ ap (meaning heap) (sym (slot-out heap slots base n i (omega arith)))
@@ -89,7 +88,7 @@ meaning-kept {heap} {heap'} {top} {s} H A S small = go (eqb s unknown) refl
         let e = eqb-true s unknown p in
         ap (meaning heap) (found-mark heap s e) ∙ sym (ap (meaning heap') (found-mark heap' s e))
     go false p = found_below S small (eqb-false s unknown p) λ node l e.
-        ap (meaning heap) e ∙ ap some (value-kept heap heap' top H A node l) ∙ sym (ap (meaning heap') (sym (found_later A S small) ∙ e))
+        ap (meaning heap) e ∙ ap maybe.some (value-kept heap heap' top H A node l) ∙ sym (ap (meaning heap') (sym (found_later A S small) ∙ e))
 
 -- a heap that has grown
 pub state-kept : (heap heap' slots : List ℕ) (base n top : ℕ) → Heap heap top → Agree top heap heap' → Slots heap slots (base + n) top → top ≤ unknown

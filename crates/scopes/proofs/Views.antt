@@ -10,6 +10,7 @@ use lib.ListN.{length, get_or, set, length-set}
 use lib.Seq.{get_or-set_same, get_or-set_other, ext_get_or}
 use lib.Dec.{eqb}
 use borrow.Author.Tests.{eqb-true, eqb-false, lt-ltb, le-ltb}
+use Rattle.std.specs.Prelude.{Option, Some, None}
 use package.Rattle.rules.specs.Limits.{max_variables}
 use package.Rattle.rules.specs.Val.{same}
 use package.Rattle.valuegraph.specs.Nodes.{left_at, value_at, Agree, Celled}
@@ -18,10 +19,7 @@ use package.Rattle.scopes.specs.Cells.{cell_count, Linked, cell_at, number_in, s
 use package.Rattle.scopes.specs.Bindings.{slots_from, view_of, state_of, Bound, Opens, Meets, Tells, said, seen, Compared, Assigns, MeetsBy, MeetsAt}
 use package.Rattle.scopes.proofs.Marks.{found-mark, found_below, found-low, found-cell, node_or_lem, node_none}
 use package.Rattle.scopes.proofs.Cells.{cell-empty, cell-le, cell-kept, binds_it, binds-no-other, leaves-older, leaves_none}
-use Rattle.scopes.specs.declared.slots.Found.{Found}
-use Rattle.scopes.specs.declared.slots.Found.TheVariants.{Node, Unknown}
 use Rattle.scopes.specs.declared.bindings.Bindings.{Bindings}
-use Rattle.scopes.specs.declared.bindings.Met.{Met}
 
 ----------------------------------------------------------------
 -- The slots of a view
@@ -171,7 +169,7 @@ unfolding seen
 seen-found heap b s l = rw (seen, le-ltb (unknown + b.head) s l)
 
 -- a number that is newer
-pub seen-newer : (heap : List ℕ) (b : Bindings) (s : ℕ) → unknown + b.head < s → seen heap b s ≡ Unknown
+pub seen-newer : (heap : List ℕ) (b : Bindings) (s : ℕ) → unknown + b.head < s → seen heap b s ≡ None
 unfolding seen
 seen-newer heap b s l = rw (seen, lt-ltb (unknown + b.head) s l)
 
@@ -199,24 +197,24 @@ told-seen {heap} {slots} {b} {base} {q} T small known i l = seen-found heap b _ 
     go (no m) = omega (arith, T.index i (omega arith) l, cell-le heap i b.head)
 
 -- by what the slot says
-pub by_slot : {heap heap' st st' : List ℕ} {b : Bindings} (sc : Scope) {i node top : ℕ} {r : Met} → MeetsAt heap heap' st st' b sc i node r
+pub by_slot : {heap heap' st st' : List ℕ} {b : Bindings} (sc : Scope) {i node top : ℕ} {r : Option Bindings} → MeetsAt heap heap' st st' b sc i node r
     → said heap (slots_of st) b sc i ≡ found heap (get_or (slots_of st) (sc.base + i) 0) → Slot heap (get_or (slots_of st) (sc.base + i) 0) top → top ≤ unknown
     → {P : Type 0} → (get_or (slots_of st) (sc.base + i) 0 ≡ unknown → Assigns heap heap' st st' b sc.base i node r → P)
-    → ((old : ℕ) → (get_or (slots_of st) (sc.base + i) 0 ≡ unknown → ⊥) → found heap (get_or (slots_of st) (sc.base + i) 0) ≡ Node old
+    → ((old : ℕ) → (get_or (slots_of st) (sc.base + i) 0 ≡ unknown → ⊥) → found heap (get_or (slots_of st) (sc.base + i) 0) ≡ Some old
     → Compared heap heap' st st' b old node r → P) → P
 by_slot {heap} {heap'} {st} {st'} {b} sc {i} {node} {r = r} M e S small {P} binding comparing = go (eqb (get_or (slots_of st) (sc.base + i) 0) unknown) refl
   where
-    told : (f : Found) → found heap (get_or (slots_of st) (sc.base + i) 0) ≡ f → MeetsBy heap heap' st st' b sc.base i node r f
+    told : (f : Option ℕ) → found heap (get_or (slots_of st) (sc.base + i) 0) ≡ f → MeetsBy heap heap' st st' b sc.base i node r f
     told f q = subst (MeetsBy heap heap' st st' b sc.base i node r) (e ∙ q) M.met
 
     go : (y : Bool) → eqb (get_or (slots_of st) (sc.base + i) 0) unknown ≡ y → P
-    go true q = let u = eqb-true _ unknown q in binding u (told Unknown (found-mark heap _ u))
-    go false q = let u = eqb-false _ unknown q in found_below S small u λ old low z. comparing old u z (told (Node old) z)
+    go true q = let u = eqb-true _ unknown q in binding u (told None (found-mark heap _ u))
+    go false q = let u = eqb-false _ unknown q in found_below S small u λ old low z. comparing old u z (told (Some old) z)
 
 -- what a new cell says
-pub new-found : {heap heap' : List ℕ} {top node link : ℕ} → Celled heap heap' top node link → 0 < top → found heap' (unknown + top) ≡ Node node
+pub new-found : {heap heap' : List ℕ} {top node link : ℕ} → Celled heap heap' top node link → 0 < top → found heap' (unknown + top) ≡ Some node
 new-found {heap' = heap'} {top = top} C some =
-    found-cell heap' (unknown + top) (omega arith) ∙ ap Node (ap (λ c. left_at heap' c) (let z : unknown + top - unknown ≡ top = omega arith in z) ∙ C.left_is)
+    found-cell heap' (unknown + top) (omega arith) ∙ ap Some (ap (λ c. left_at heap' c) (let z : unknown + top - unknown ≡ top = omega arith in z) ∙ C.left_is)
 
 module _ (slots : List ℕ) (base i n : ℕ) (l : i < n) (few : n ≤ max_variables) where
   here : get_or (slots_from slots base max_variables) i 0 ≡ get_or slots (base + i) 0
@@ -232,7 +230,7 @@ module _ (slots : List ℕ) (base i n : ℕ) (l : i < n) (few : n ≤ max_variab
 
   -- it is compared
   pub compares_view : (heap : List ℕ) (node x : ℕ) {agrees : Bool} {old : ℕ} → (get_or slots (base + i) 0 ≡ unknown → ⊥)
-      → found heap (get_or slots (base + i) 0) ≡ Node old → agrees ≡ same (value_at heap old) (value_at heap node)
+      → found heap (get_or slots (base + i) 0) ≡ Some old → agrees ≡ same (value_at heap old) (value_at heap node)
       → Meets heap (view_of slots base n) i node x agrees (view_of slots base n)
   compares_view heap node x {old = old} d e a = record {
     binds = λ u. absurd (d (sym here ∙ u));

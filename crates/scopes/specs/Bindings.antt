@@ -1,17 +1,15 @@
 -- The binding state by value (section 2, backward) is the number of its newest cell (specs/Cells). A view is what the slots of a scope say: as
 -- many numbers as there may be variables, of which the first `len` are of variables in scope. Slots are an index, by which the code finds a
 -- variable's cell; the state decides whether the cell counts. Laws: proofs/Bound over views, proofs/Views from the code to views.
-use Rattle.std.specs.Prelude.{ℕ, zero, suc, ◌+◌, ◌-◌, ◌≤◌, ◌<◌, ◌≡◌, Bool, true, false, List, [], ◌∷◌, length, get_or, set, ltb}
+use Rattle.std.specs.Prelude.{ℕ, zero, suc, ◌+◌, ◌-◌, ◌≤◌, ◌<◌, ◌≡◌, Bool, true, false, List, [], ◌∷◌, length, get_or, set, ltb, Option, Some, None}
+use Rattle.std.specs.Bool.{then_some}
 use package.Rattle.rules.specs.Limits.{max_variables}
 use package.Rattle.rules.specs.Val.{same}
 use package.Rattle.rules.specs.Machine.{State}
 use package.Rattle.valuegraph.specs.Nodes.{value_at, Room, Heap}
 use package.Rattle.scopes.specs.Slots.{unknown, slot_count, state_count, Scope, machine_of, slots_of, Moved, found, node_or, state_at, Slot, Slots}
 use package.Rattle.scopes.specs.Cells.{cell_count, Linked, cell_at, number_in, state_with}
-use Rattle.scopes.specs.declared.slots.Found.{Found}
-use Rattle.scopes.specs.declared.slots.Found.TheVariants.{Node, Unknown}
 use Rattle.scopes.specs.declared.bindings.Bindings.{Bindings}
-use Rattle.scopes.specs.declared.bindings.Met.{Met}
 
 ----------------------------------------------------------------
 -- Views
@@ -74,16 +72,16 @@ pub record Tells (heap slots : List ℕ) (b : Bindings) (base q n top : ℕ) : T
   pub outside : (i : ℕ) → n ≤ i → cell_at heap b.head i ≡ 0
 
 -- what a state binds variable `i` to
-abbrev pub bound : List ℕ → Bindings → ℕ → Found
+abbrev pub bound : List ℕ → Bindings → ℕ → Option ℕ
 bound heap b i = found heap (unknown + cell_at heap b.head i)
 
 -- What a state says of variable `i` of a scope: a function of the state and the cells that it names. (Of an ancilla parameter it is its node.)
-abbrev pub said : (heap slots : List ℕ) → Bindings → Scope → ℕ → Found
+abbrev pub said : (heap slots : List ℕ) → Bindings → Scope → ℕ → Option ℕ
 said heap slots b sc i = found heap (number_in heap slots b.head sc i)
 
 -- What a slot's number says in a state: a cell that is newer than the state does not count.
-unfoldable pub seen : List ℕ → Bindings → ℕ → Found
-seen heap b s = elim (ltb (unknown + b.head) s) [ true ↦ Unknown | false ↦ found heap s ]
+unfoldable pub seen : List ℕ → Bindings → ℕ → Option ℕ
+seen heap b s = elim (ltb (unknown + b.head) s) [ true ↦ None | false ↦ found heap s ]
 
 -- a slot's number can be looked up in a state
 pub record Looks (heap : List ℕ) (b : Bindings) (number top : ℕ) : Type 0 where
@@ -123,26 +121,24 @@ pub record Meetable (heap st : List ℕ) (b : Bindings) (sc : Scope) (i : ℕ) :
   pub slot : Slot heap (get_or (slots_of st) (sc.base + i) 0) (machine_of st).top
   pub reads : seen heap b (get_or (slots_of st) (sc.base + i) 0) ≡ said heap (slots_of st) b sc i
 
--- it is compared with what it is bound to, and all is as it was
-pub record Compared (heap heap' st st' : List ℕ) (b : Bindings) (old node : ℕ) (r : Met) : Type 0 where
-  pub agrees : r.agrees ≡ same (value_at heap old) (value_at heap node)
+-- it is compared with what it is bound to, and all is as it was: the state, or none where the values differ
+pub record Compared (heap heap' st st' : List ℕ) (b : Bindings) (old node : ℕ) (r : Option Bindings) : Type 0 where
+  pub agrees : r ≡ then_some (same (value_at heap old) (value_at heap node)) b
   pub heap_same : heap' ≡ heap
   pub numbers_same : st' ≡ st
-  pub state_same : r.state ≡ b
 
 -- it is bound, by a new cell, which its slot names
-pub record Assigns (heap heap' st st' : List ℕ) (b : Bindings) (base i node : ℕ) (r : Met) : Type 0 where
-  pub agrees : r.agrees ≡ true
+pub record Assigns (heap heap' st st' : List ℕ) (b : Bindings) (base i node : ℕ) (r : Option Bindings) : Type 0 where
+  pub agrees : r ≡ Some (record { head = (machine_of st).top })
   pub linked : Linked heap heap' (machine_of st).top node i b.head
   pub lengths : length st' ≡ length st
   pub slots : slots_of st' ≡ set (slots_of st) (base + i) (unknown + (machine_of st).top)
   pub machine : machine_of st' ≡ record { top = (machine_of st).top + 1; fuel = (machine_of st).fuel }
-  pub head : r.state.head ≡ (machine_of st).top
 
 -- by what the state says of the variable
-abbrev pub MeetsBy : (heap heap' st st' : List ℕ) → Bindings → ℕ → ℕ → ℕ → Met → Found → Type 0
-MeetsBy heap heap' st st' b base i node r (Node old) = Compared heap heap' st st' b old node r
-MeetsBy heap heap' st st' b base i node r Unknown = Assigns heap heap' st st' b base i node r
+abbrev pub MeetsBy : (heap heap' st st' : List ℕ) → Bindings → ℕ → ℕ → ℕ → Option Bindings → Option ℕ → Type 0
+MeetsBy heap heap' st st' b base i node r (Some old) = Compared heap heap' st st' b old node r
+MeetsBy heap heap' st st' b base i node r None = Assigns heap heap' st st' b base i node r
 
-pub record MeetsAt (heap heap' st st' : List ℕ) (b : Bindings) (sc : Scope) (i node : ℕ) (r : Met) : Type 0 where
+pub record MeetsAt (heap heap' st st' : List ℕ) (b : Bindings) (sc : Scope) (i node : ℕ) (r : Option Bindings) : Type 0 where
   pub met : MeetsBy heap heap' st st' b sc.base i node r (said heap (slots_of st) b sc i)

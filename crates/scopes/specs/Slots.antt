@@ -1,13 +1,12 @@
 -- Scopes in slots: slot base + i holds variable i's node; backward, the cell that says what the variable is bound to (specs/Cells); or a
 -- mark if the variable is not known. A scope is the state that the rules' runs have (rules/specs/Machine). Laws: proofs/Scopes.
-use Rattle.std.specs.Prelude.{ℕ, zero, suc, ◌+◌, ◌*◌, ◌-◌, ◌<◌, ◌/◌, ◌%◌, ◌≡◌, true, false, List, [], ◌∷◌, ◌⊎◌, length, get_or, set, drop, eqb, ltb}
-use Rattle.std.proofs.Math.Option.{Option, none, some}
+use Rattle.std.specs.Prelude.{ℕ, zero, suc, ◌+◌, ◌*◌, ◌-◌, ◌<◌, ◌/◌, ◌%◌, ◌≡◌, true, false, List, [], ◌∷◌, ◌⊎◌, length, get_or, set, drop, eqb, ltb, Option, Some, None}
+use Rattle.std.specs.Option.{unwrap_or}
+use Rattle.std.proofs.Math.Option as maybe
 use package.Rattle.rules.specs.Limits.{max_height, max_parameters, max_variables}
 use package.Rattle.rules.specs.Val.{Val}
 use package.Rattle.rules.specs.Machine.{State}
 use package.Rattle.valuegraph.specs.Nodes.{left_at, value_at}
-use Rattle.scopes.specs.declared.slots.Found.{Found}
-use Rattle.scopes.specs.declared.slots.Found.TheVariants.{Node, Unknown}
 
 -- the mark; a number above it names a cell
 unfoldable pub unknown : ℕ
@@ -69,26 +68,25 @@ pub record Written (st st' : List ℕ) (at node : ℕ) : Type 0 where
 -- Slots
 
 -- What a slot's number says: a node below the mark, nothing at it, and above it what the cell is bound to.
-unfoldable pub found : List ℕ → ℕ → Found
+unfoldable pub found : List ℕ → ℕ → Option ℕ
 found heap s = elim (ltb s unknown) [
-  | true ↦ Node s
-  | false ↦ elim (eqb s unknown) [ true ↦ Unknown | false ↦ Node (left_at heap (s - unknown)) ]
+  | true ↦ Some s
+  | false ↦ elim (eqb s unknown) [ true ↦ None | false ↦ Some (left_at heap (s - unknown)) ]
 ]
 
 -- what is known of a variable, on the heap that its node is in
-abbrev pub meaning : List ℕ → Found → Option Val
-meaning heap (Node node) = some (value_at heap node)
-meaning heap Unknown = none
+abbrev pub meaning : List ℕ → Option ℕ → maybe.Option Val
+meaning heap (Some node) = maybe.some (value_at heap node)
+meaning heap None = maybe.none
 
 -- its node: node 0 is the unit, which a variable that is never met is
-unfoldable pub node_or : Found → ℕ
-node_or (Node node) = node
-node_or Unknown = 0
+unfoldable pub node_or : Option ℕ → ℕ
+node_or f = unwrap_or f 0
 
 -- What a term that runs forward reads of variable `i` of `n`: nothing, if it is not in scope; else its node, which is node 0, the unit, if
 -- it was not met so far (02, F-2).
-unfoldable pub slot_at : List ℕ → List ℕ → ℕ → ℕ → ℕ → Found
-slot_at heap slots base n i = elim (ltb i n) [ true ↦ Node (node_or (found heap (get_or slots (base + i) 0))) | false ↦ Unknown ]
+unfoldable pub slot_at : List ℕ → List ℕ → ℕ → ℕ → ℕ → Option ℕ
+slot_at heap slots base n i = elim (ltb i n) [ true ↦ Some (node_or (found heap (get_or slots (base + i) 0))) | false ↦ None ]
 
 -- the scope of `n` variables, the newest first
 unfoldable pub state_at : List ℕ → List ℕ → ℕ → ℕ → State

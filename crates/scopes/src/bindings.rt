@@ -5,7 +5,7 @@ ghost use Rattle.std.specs.Prelude.{◌≡◌, ◌+◌, ◌<◌, get_or};
 ghost use Rattle.scopes.specs.Slots.{unknown, slot_count, machine_of, slots_of, scope_in, node_or};
 ghost use Rattle.scopes.specs.Bindings.{seen, Looks, CellReady, Adds, EntersBound, Meetable, MeetsAt};
 
-use crate::slots::{Found, UNKNOWN};
+use crate::slots::UNKNOWN;
 use crate::state::STATE;
 use crate::{slots, state};
 
@@ -18,12 +18,6 @@ pub struct Bindings {
     pub head: u32,
 }
 
-#[derive(Drop)]
-pub struct Met {
-    pub agrees: bool,
-    pub state: Bindings,
-}
-
 impl Bindings {
     // No variable is bound.
     pub fn none() -> Self
@@ -33,12 +27,12 @@ impl Bindings {
     }
 
     // What a slot's number says in this state.
-    fn seen(self, ws: &[u8], top: u32, number: u32) -> Found
+    fn seen(self, ws: &[u8], top: u32, number: u32) -> Option<u32>
         requires { Looks ws.now self number top }
         ensures { result ≡ seen ws.now self number }
     {
         if UNKNOWN + self.head < number {
-            return Found::Unknown;
+            return None;
         }
         slots::known(ws, top, number)
     }
@@ -49,31 +43,32 @@ impl Bindings {
         ensures { Adds ws.old ws.new st.old st.new self part i result }
     {
         let top = state::top(st);
-        valuegraph::nodes::cell(ws, top, part, CELLS * octets::wide32(i) + self.head);
+        valuegraph::nodes::cell(ws, top, part, CELLS * u32::from(i) + self.head);
         state::grow(st);
         Bindings { head: top }
     }
 
-    // Variable i of a scope is met with a node's value: it is bound, or compared, as the state says.
-    pub fn meet(self, ws: &mut [u8], st: &mut [u32; STATE], scope: u64, i: u16, node: u32) -> Met
+    // Variable i of a scope is met with a node's value: it is bound, or compared, as the state says. The state then, none if the values differ.
+    pub fn meet(
+        self,
+        ws: &mut [u8],
+        st: &mut [u32; STATE],
+        scope: u64,
+        i: u16,
+        node: u32,
+    ) -> Option<Bindings>
         requires meetable { Meetable ws.old st.old self (scope_in scope) i }
         requires node_bound { node < (machine_of st.old).top }
         ensures { MeetsAt ws.old ws.new st.old st.new self (scope_in scope) i node result }
     {
         let top = state::top(st);
-        let at = state::base_in(scope) + octets::wide_index(i);
+        let at = state::base_in(scope) + usize::from(i);
         match self.seen(ws, top, slots::at(st, at)) {
-            Found::Node(old) => Met {
-                agrees: valuegraph::nodes::same(ws, top, old, node),
-                state: self,
-            },
-            Found::Unknown => {
+            Some(old) => valuegraph::nodes::same(ws, top, old, node).then_some(self),
+            None => {
                 let state = self.with_cell(ws, st, node, i);
                 slots::bind(st, at, UNKNOWN + top);
-                Met {
-                    agrees: true,
-                    state: state,
-                }
+                Some(state)
             }
         }
     }
@@ -97,10 +92,8 @@ impl Bindings {
         requires looks { Looks ws.now self (get_or (slots_of st.now) slot 0) (machine_of st.now).top }
         ensures { result ≡ node_or (seen ws.now self (get_or (slots_of st.now) slot 0)) }
     {
-        match self.seen(ws, state::top(st), slots::at(st, slot)) {
-            Found::Node(node) => node,
-            Found::Unknown => 0,
-        }
+        self.seen(ws, state::top(st), slots::at(st, slot))
+            .unwrap_or(0)
     }
 
     // The variables from n on leave the scope: the others are bound as they were.

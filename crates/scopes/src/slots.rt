@@ -11,28 +11,23 @@ use crate::state::{SLOTS_FROM, STATE};
 // The mark of a variable that is not known: no node has this number. Numbers above it name cells.
 pub const UNKNOWN: u32 = 2147483648;
 
-#[derive(Drop)]
-pub enum Found {
-    Node(u32),
-    Unknown,
-}
-
-// What a slot's number says.
-pub fn known(ws: &[u8], top: u32, number: u32) -> Found
+// What a slot's number says: the variable's node, none if it is not known.
+pub fn known(ws: &[u8], top: u32, number: u32) -> Option<u32>
     requires heap { Heap ws.now top }
     requires slot { Slot ws.now number top }
     ensures { result ≡ found ws.now number }
 {
     if number < UNKNOWN {
-        return Found::Node(number);
+        return Some(number);
     }
     if number == UNKNOWN {
-        return Found::Unknown;
+        return None;
     }
-    Found::Node(valuegraph::nodes::left_of(ws, number - UNKNOWN))
+    Some(valuegraph::nodes::left_of(ws, number - UNKNOWN))
 }
 
 // Slot `at`.
+#[tactic(auto, unfolding(rules::specs::Limits::max_height, rules::specs::Limits::max_parameters))]
 pub fn at(st: &[u32; STATE], slot: usize) -> u32
     requires { slot < slot_count }
     ensures { result ≡ get_or (slots_of st.now) slot 0 }
@@ -41,20 +36,18 @@ pub fn at(st: &[u32; STATE], slot: usize) -> u32
 }
 
 // What a term that runs forward reads of variable i of n: its node, if it is in scope; node 0, the unit, if it was not met so far (02, F-2).
-pub fn find(ws: &[u8], st: &[u32; STATE], base: usize, n: usize, i: u16) -> Found
+#[tactic(auto, unfolding(rules::specs::Limits::max_height, rules::specs::Limits::max_parameters))]
+pub fn find(ws: &[u8], st: &[u32; STATE], base: usize, n: usize, i: u16) -> Option<u32>
     requires n_bound { base + n ≤ slot_count }
     requires heap { Heap ws.now (machine_of st.now).top }
     requires slots { Slots ws.now (slots_of st.now) (base + n) (machine_of st.now).top }
     ensures { result ≡ slot_at ws.now (slots_of st.now) base n i }
 {
-    let v = octets::wide_index(i);
+    let v = usize::from(i);
     if n <= v {
-        return Found::Unknown;
+        return None;
     }
-    match known(ws, state::top(st), at(st, base + v)) {
-        Found::Node(node) => Found::Node(node),
-        Found::Unknown => Found::Node(0),
-    }
+    Some(known(ws, state::top(st), at(st, base + v)).unwrap_or(0))
 }
 
 // A variable comes into scope.

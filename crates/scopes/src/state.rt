@@ -53,6 +53,7 @@ pub fn begin(st: &mut [u32; STATE], top: u32, fuel: u32)
 }
 
 // A scope of n variables from slot `base` on, of which the first q are ancilla parameters.
+#[tactic(auto, unfolding(rules::specs::Limits::max_height, rules::specs::Limits::max_parameters))]
 pub fn scope(base: usize, q: usize, n: usize) -> u64
     requires { (base ≤ slot_count) × (q < part) × (n < part) }
     ensures { scope_in result ≡ record { base = base; q = q; n = n } }

@@ -4,12 +4,14 @@ use native.Mathlib.Omega.{arith}
 use native.Mathlib.Nat.{eq-or-lt_of_le}
 use mathlib.Core.Path.{◌≡◌, refl, sym, ap, ap₂, subst, ◌∙◌}
 use mathlib.Core.Logic.{⊎_elim}
-use mathlib.Core.Bool.{Bool, true, false, cond}
+use mathlib.Core.Bool.{Bool, true, false}
 use mathlib.Core.List.{List, map}
 use lib.ListN.{length, get_or, set, length-set}
 use lib.Seq.{get_or-set_same, get_or-set_other}
 use lib.Dec.{eqb}
-use borrow.Author.Tests.{eqb-true, eqb-false, eq-eqb, lt-ltb, le-ltb}
+use borrow.Author.Tests.{eqb-true, eqb-false, eq-eqb}
+use borrow.Author.Rules.{rules}
+use Rattle.std.specs.Prelude.{Option, Some, None, IsSome}
 use package.Rattle.rules.specs.Limits.{max_types}
 use package.Rattle.rules.proofs.Basics.{given}
 use package.Rattle.rules.proofs.Typing.Tests.{same_ty_refl, same_ty_eq}
@@ -33,24 +35,6 @@ use package.Rattle.types.proofs.Keys.{key-same, figure_free, figure_outer}
 ----------------------------------------------------------------
 -- The beginning
 
-pub none_numbered : {xs types heap keys index : List ℕ} → typing_bytes ≤ length heap → length keys ≡ max_types → length index ≡ slots
-    → Numbered xs types heap keys index 0
-none_numbered held k x = record {
-  figured = record {
-    held = held;
-    number_lower = λ i l. absurd (omega arith);
-    number_tree = λ i l. absurd (omega arith);
-    number_one = λ i j l. absurd (omega arith);
-    free_is = λ i l. absurd (omega arith);
-    outer_is = λ i l. absurd (omega arith);
-    alias_is = λ i j l. absurd (omega arith);
-  };
-  keys_held = k;
-  index_held = x;
-  key = λ i l. absurd (omega arith);
-  taken = λ i l. absurd (omega arith);
-}
-
 ----------------------------------------------------------------
 -- What stays
 
@@ -65,7 +49,8 @@ key-kept heap heap' {n} s (y_mu a) l = given (below-head n a _ l) λ (i, l₁). 
 key-kept heap heap' s (y_var k) l = refl
 
 -- and so do numbered entries where a hint is put
-numbered-noted : {xs types heap heap' keys index : List ℕ} {n : ℕ} → Readable xs types → n ≤ length types → Numbered xs types heap keys index n
+numbered-noted : {xs types heap heap' keys : List ℕ} {index : List (Option ℕ)} {n : ℕ} → Readable xs types → n ≤ length types
+    → Numbered xs types heap keys index n
     → Noted heap heap' → Numbered xs types heap' keys index n
 numbered-noted {xs} {types} {heap} {heap'} {keys} {index} {n} R le N H = record {
   figured = noted-figured (omega (arith, R.few)) N.figured H;
@@ -81,7 +66,8 @@ numbered-noted {xs} {types} {heap} {heap'} {keys} {index} {n} R le N H = record 
 ----------------------------------------------------------------
 -- The new entry
 
-module _ {xs types heap keys index : List ℕ} {i : ℕ} (R : Readable xs types) (l : i < length types) (N : Numbered xs types heap keys index i) where
+module _ {xs types heap keys : List ℕ} {index : List (Option ℕ)} {i : ℕ} (R : Readable xs types) (l : i < length types)
+    (N : Numbered xs types heap keys index i) where
   abbrev ys : List TypeEntry
   ys = map (type_at xs) types
 
@@ -123,42 +109,42 @@ module _ {xs types heap keys index : List ℕ} {i : ℕ} (R : Readable xs types)
       ap (λ k. eqb k (figure_of heap (y i)).key) (N.key j h) ∙ key-same F few (y j) (y i) (lower j (omega arith)) (lower i (omega arith))
       ∙ sym (ap₂ same_ty (unfolds j) (unfolds i))
 
-  module _ {f : Figure} {at : ℕ} (a : at ≡ get_or types i 0) (r : f ≡ figure_of heap (type_at xs at)) {k : ℕ} (D : Finds keys i f.key k) where
+  module _ {f : Figure} {at : ℕ} (a : at ≡ get_or types i 0) (r : f ≡ figure_of heap (type_at xs at)) {k : Option ℕ} (D : Finds keys i f.key k) where
     e : f ≡ figure_of heap (y i)
     e = r ∙ ap (figure_of heap) (place a)
 
     -- the entry that is found has the same tree
-    found-tree : k < i → T k ≡ T i
-    found-tree h = same_ty_eq (T k) (T i) (sym (by_key k h) ∙ eq-eqb _ _ (D.there h ∙ ap (λ (f : Figure). f.key) e))
+    found-tree : {m : ℕ} → k ≡ Some m → T m ≡ T i
+    found-tree {m} q =
+        same_ty_eq (T m) (T i) (sym (by_key m (D.there m q).0) ∙ eq-eqb _ _ ((D.there m q).1 ∙ ap (λ (f : Figure). f.key) e))
 
     -- if none is found, no lower entry has it
-    none_tree : k ≡ i → (j : ℕ) → j < i → ¬ (T j ≡ T i)
+    none_tree : k ≡ None → (j : ℕ) → j < i → ¬ (T j ≡ T i)
     none_tree q j h t =
         D.none q j h (eqb-true _ _ (by_key j h ∙ ap (λ t. same_ty t (T i)) t ∙ same_ty_refl (T i)) ∙ sym (ap (λ (f : Figure). f.key) e))
 
-    number_if : (k < i → number_from heap i k ≡ number_at heap k) × (k ≡ i → number_from heap i k ≡ i)
-    number_if = (
-      λ h. ap (λ b. cond b (number_at heap k) i) (lt-ltb k i h),
-      λ q. ap (λ b. cond b (number_at heap k) i) (le-ltb k i (omega arith)),
-    )
-
-    either : {A : Type 0} → (k < i → A) → (k ≡ i → A) → A
-    either p q = ⊎_elim q p (eq-or-lt_of_le D.most)
-
     own-lower : number_from heap i k ≤ i
-    own-lower = either
-        (λ h. subst (λ n. n ≤ i) (sym (number_if.0 h)) (let low : number_at heap k ≤ i = omega (arith, F.number_lower k h) in low))
-        (λ q. subst (λ n. n ≤ i) (sym (number_if.1 q)) (omega arith))
+    own-lower = by k refl
+      where
+        by : (r : Option ℕ) → k ≡ r → number_from heap i r ≤ i
+        by None q = omega arith
+        by (Some m) q = let low : number_at heap m ≤ i = omega (arith, F.number_lower m (D.there m q).0, (D.there m q).0) in low
 
     own-tree : T (number_from heap i k) ≡ T i
     unfolding T
-    own-tree = either (λ h. ap T (number_if.0 h) ∙ F.number_tree k h ∙ found-tree h) (λ q. ap T (number_if.1 q))
+    own-tree = by k refl
+      where
+        by : (r : Option ℕ) → k ≡ r → type_of ys (number_from heap i r) ≡ type_of ys i
+        by None q = refl
+        by (Some m) q = F.number_tree m (D.there m q).0 ∙ found-tree q
 
     own-one : (j : ℕ) → j < i → T j ≡ T i → number_at heap j ≡ number_from heap i k
     unfolding T
-    own-one j h t = either
-        (λ l. F.number_one j k h l (t ∙ sym (found-tree l)) ∙ sym (number_if.0 l))
-        (λ q. absurd (none_tree q j h t))
+    own-one j h t = by k refl
+      where
+        by : (r : Option ℕ) → k ≡ r → number_at heap j ≡ number_from heap i r
+        by None q = absurd (none_tree q j h t)
+        by (Some m) q = F.number_one j m h (D.there m q).0 (t ∙ sym (found-tree q))
 
     module _ {own : ℕ} (o : own ≡ number_from heap i k) {heap' : List ℕ} (w : heap' ≡ put_figures heap i own f.free f.outer)
         (free-fits : f.free < 65536) (outer-fits : f.outer < 65536) where
@@ -214,8 +200,8 @@ module _ {xs types heap keys index : List ℕ} {i : ℕ} (R : Readable xs types)
         keys' : List ℕ
         keys' = set keys i f.key
 
-        index' : List ℕ
-        index' = set index s (i + 1)
+        index' : List (Option ℕ)
+        index' = set index s (Some i)
 
         here : get_or keys' i 0 ≡ f.key
         unfolding keys'
@@ -225,32 +211,32 @@ module _ {xs types heap keys index : List ℕ} {i : ℕ} (R : Readable xs types)
         unfolding keys'
         kept j h = get_or-set_other keys i j f.key 0 (λ e. omega arith)
 
-        now-taken : 0 < get_or index' s 0
+        now-taken : IsSome (get_or index' s None)
         unfolding index'
-        now-taken = subst (λ n. 0 < n) (sym (get_or-set_same index s (i + 1) 0 (omega (arith, N.index_held)))) (omega arith)
+        now-taken = subst IsSome (sym (get_or-set_same index s (Some i) None (omega (arith, N.index_held)))) (search rules)
 
-        still-taken : (t : ℕ) → 0 < get_or index t 0 → 0 < get_or index' t 0
+        still-taken : (t : ℕ) → IsSome (get_or index t None) → IsSome (get_or index' t None)
         unfolding index'
         still-taken t h = go (eqb t s) refl
           where
-            go : (b : Bool) → eqb t s ≡ b → 0 < get_or (set index s (i + 1)) t 0
-            go true q = subst (λ t. 0 < get_or (set index s (i + 1)) t 0) (sym (eqb-true t s q)) now-taken
-            go false q = subst (λ n. 0 < n) (sym (get_or-set_other index s t (i + 1) 0 (eqb-false t s q))) h
+            go : (b : Bool) → eqb t s ≡ b → IsSome (get_or (set index s (Some i)) t None)
+            go true q = subst (λ t. IsSome (get_or (set index s (Some i)) t None)) (sym (eqb-true t s q)) now-taken
+            go false q = subst IsSome (sym (get_or-set_other index s t (Some i) None (eqb-false t s q))) h
 
-        numbered-put : Numbered xs types heap' (set keys i f.key) (set index s (i + 1)) (i + 1)
+        numbered-put : Numbered xs types heap' (set keys i f.key) (set index s (Some i)) (i + 1)
         unfolding keys' index'
         numbered-put = record {
           figured = figured-more;
           keys_held = length-set keys i f.key ∙ N.keys_held;
-          index_held = length-set index s (i + 1) ∙ N.index_held;
+          index_held = length-set index s (Some i) ∙ N.index_held;
           key = each (λ j. get_or keys' j 0 ≡ (figure_of heap' (y j)).key)
               (λ j h. kept j h ∙ N.key j h ∙ key-kept heap heap' numbers (y j) (lower j (omega arith)))
               (here ∙ ap (λ (f : Figure). f.key) e ∙ key-kept heap heap' numbers (y i) (lower i (omega arith)));
-          taken = each (λ j. 0 < get_or index' (slot_of (get_or keys' j 0)) 0)
-              (λ j h. subst (λ k. 0 < get_or index' (slot_of k) 0) (sym (kept j h)) (still-taken _ (N.taken j h)))
-              (subst (λ t. 0 < get_or index' t 0) (p ∙ ap slot_of (sym here)) now-taken);
+          taken = each (λ j. IsSome (get_or index' (slot_of (get_or keys' j 0)) None))
+              (λ j h. subst (λ k. IsSome (get_or index' (slot_of k) None)) (sym (kept j h)) (still-taken _ (N.taken j h)))
+              (subst (λ t. IsSome (get_or index' t None)) (p ∙ ap slot_of (sym here)) now-taken);
         }
 
         -- with a hint at the new entry, or none
-        pub numbered_more : {heap'' : List ℕ} → Noted heap' heap'' → Numbered xs types heap'' (set keys i f.key) (set index s (i + 1)) (i + 1)
+        pub numbered_more : {heap'' : List ℕ} → Noted heap' heap'' → Numbered xs types heap'' (set keys i f.key) (set index s (Some i)) (i + 1)
         numbered_more H = numbered-noted R (omega arith) numbered-put H

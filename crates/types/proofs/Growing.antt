@@ -12,12 +12,15 @@ use package.Rattle.rules.specs.Limits.{max_types, max_terms, max_nodes}
 use package.Rattle.rules.specs.Ty.{Ty, prod, nodes}
 use package.Rattle.calls.specs.Entries.{TypeEntry, type_at}
 use package.Rattle.types.specs.declared.codes.Code.{Code}
+use package.Rattle.types.specs.declared.nodes.Numbers.{Numbers}
+use package.Rattle.types.specs.declared.codes.Code.TheVariants as code
+use package.Rattle.types.specs.Numbers.{numbers_of, code_of, no_product}
 use package.Rattle.types.specs.Codes.{Room, node_bytes, product_code, code_at, left_at, right_at, count_at, of_code}
-use package.Rattle.types.specs.Codes.{product_within, product_at, tree_of, tree_in, Known, Right, Products, Sources}
+use package.Rattle.types.specs.Codes.{product_within, product_at, tree_of, tree_in, Names, Known, Right, Products, Sources}
 use package.Rattle.types.specs.Figures.{Figured}
 use package.Rattle.types.proofs.Figuring.{figured-same}
 use package.Rattle.types.specs.Growth.{put_code, put_node, Agree, Grown}
-use package.Rattle.types.proofs.Trees.{same_numbers, tree-product, code_agrees, enough}
+use package.Rattle.types.proofs.Trees.{tree-product, code_agrees, enough}
 
 ----------------------------------------------------------------
 -- A code that is put
@@ -29,50 +32,89 @@ length_code heap i c = simp length-put16
 pub code_low : (heap : List ℕ) (i : ℕ) (c : Code) (j : ℕ) → j < i → get_or (put_code heap i c) j 0 ≡ get_or heap j 0
 unfolding put_code
 code_low heap i c j h =
-    put16-low _ (i + 4) c.stands j (omega arith)
-    ∙ put16-low _ (i + 2) c.at j (omega arith)
-    ∙ put16-low heap i c.form j h
+    put16-low _ (i + 4) (numbers_of c).stands j (omega arith)
+    ∙ put16-low _ (i + 2) (numbers_of c).at j (omega arith)
+    ∙ put16-low heap i (numbers_of c).form j h
 
 -- what is above stays too
 pub code_high : (heap : List ℕ) (i : ℕ) (c : Code) (j : ℕ) → i + 6 ≤ j → get_or (put_code heap i c) j 0 ≡ get_or heap j 0
 unfolding put_code
 code_high heap i c j h =
-    put16-other _ (i + 4) c.stands j (λ e. omega arith) (λ e. omega arith)
-    ∙ put16-other _ (i + 2) c.at j (λ e. omega arith) (λ e. omega arith)
-    ∙ put16-other heap i c.form j (λ e. omega arith) (λ e. omega arith)
+    put16-other _ (i + 4) (numbers_of c).stands j (λ e. omega arith) (λ e. omega arith)
+    ∙ put16-other _ (i + 2) (numbers_of c).at j (λ e. omega arith) (λ e. omega arith)
+    ∙ put16-other heap i (numbers_of c).form j (λ e. omega arith) (λ e. omega arith)
+
+same_read : {f f' a a' s s' : ℕ} → f ≡ f' → a ≡ a' → s ≡ s' → code_of f a s ≡ code_of f' a' s'
+same_read p q r = λ i. code_of (p i) (q i) (r i)
+
+-- a form that there is not
+pub code-none : (f a s : ℕ) → ¬ (f ≡ 0) → ¬ (f ≡ 1) → ¬ (f ≡ 2) → ¬ (f ≡ 3) → code.Product no_product ≡ code_of f a s
+unfolding code_of
+code-none zero a s o p q r = absurd (o refl)
+code-none (suc zero) a s o p q r = absurd (p refl)
+code-none (suc (suc zero)) a s o p q r = absurd (q refl)
+code-none (suc (suc (suc zero))) a s o p q r = absurd (r refl)
+code-none (suc (suc (suc (suc n)))) a s o p q r = refl
+
+-- a code is read back from its numbers
+read_back : (c : Code) → code_of (numbers_of c).form (numbers_of c).at (numbers_of c).stands ≡ c
+unfolding code_of
+read_back code.Unit = refl
+read_back (code.Entry i) = refl
+read_back (code.Under i j) = refl
+read_back (code.Product n) = refl
 
 -- codes from bytes that agree
 pub code_same : (heap heap' : List ℕ) (i : ℕ) → ((j : ℕ) → j < i + 6 → get_or heap j 0 ≡ get_or heap' j 0) → code_at heap i ≡ code_at heap' i
 unfolding code_at
 code_same heap heap' i s =
-    same_numbers _ _
+    same_read
     (get16-same _ _ i λ j l. s j (omega arith))
     (get16-same _ _ (i + 2) λ j l. s j (omega arith))
     (get16-same _ _ (i + 4) λ j l. s j (omega arith))
 
 -- The numbers of a code fit their bytes.
 pub record Fitting (c : Code) : Type 0 where
-  pub form : c.form < 65536
-  pub at : c.at < 65536
-  pub stands : c.stands < 65536
+  pub form : (numbers_of c).form < 65536
+  pub at : (numbers_of c).at < 65536
+  pub stands : (numbers_of c).stands < 65536
+
+pub record Fits (n : Numbers) : Type 0 where
+  pub form : n.form < 65536
+  pub at : n.at < 65536
+  pub stands : n.stands < 65536
+
+pub fitting : {c : Code} {n : Numbers} → n ≡ numbers_of c → Fits n → Fitting c
+fitting e F = let G = subst Fits e F in record { form = G.form; at = G.at; stands = G.stands }
+
+-- those of a code that is known do
+pub known-fits : {n top : ℕ} {c : Code} → n ≤ 65536 → top ≤ 65536 → Known n top c → Fitting c
+known-fits {n} {top} {c} few low K = by c K.names
+  where
+    by : (c : Code) → Names n top c → Fitting c
+    by code.Unit h = record { form = omega arith; at = omega arith; stands = omega arith }
+    by (code.Entry i) h = record { form = omega arith; at = omega arith; stands = omega arith }
+    by (code.Under i j) h = record { form = omega arith; at = omega arith; stands = omega arith }
+    by (code.Product k) h = record { form = omega arith; at = omega arith; stands = omega arith }
 
 module _ (heap : List ℕ) (i : ℕ) (c : Code) (F : Fitting c) (room : i + 6 ≤ length heap) where
   formed : List ℕ
-  formed = put16 heap i c.form
+  formed = put16 heap i (numbers_of c).form
 
   length-formed : length formed ≡ length heap
   unfolding formed
-  length-formed = length-put16 heap i c.form
+  length-formed = length-put16 heap i (numbers_of c).form
 
   pub code_put : code_at (put_code heap i c) i ≡ c
   unfolding code_at put_code formed
   code_put =
-      same_numbers _ _
-      (get16-same _ formed i (λ j h. put16-low _ (i + 4) c.stands j (omega arith) ∙ put16-low _ (i + 2) c.at j (omega arith))
-      ∙ get16-put16 heap i c.form (omega arith) F.form)
-      (get16-same _ (put16 formed (i + 2) c.at) (i + 2) (λ j h. put16-low _ (i + 4) c.stands j (omega arith))
-      ∙ get16-put16 formed (i + 2) c.at (omega (arith, length-formed)) F.at)
-      (get16-put16 (put16 formed (i + 2) c.at) (i + 4) c.stands (simp length-put16 (omega (arith, length-formed))) F.stands)
+      same_read
+      (get16-same _ formed i (λ j h. put16-low _ (i + 4) (numbers_of c).stands j (omega arith) ∙ put16-low _ (i + 2) (numbers_of c).at j (omega arith))
+      ∙ get16-put16 heap i (numbers_of c).form (omega arith) F.form)
+      (get16-same _ (put16 formed (i + 2) (numbers_of c).at) (i + 2) (λ j h. put16-low _ (i + 4) (numbers_of c).stands j (omega arith))
+      ∙ get16-put16 formed (i + 2) (numbers_of c).at (omega (arith, length-formed)) F.at)
+      (get16-put16 (put16 formed (i + 2) (numbers_of c).at) (i + 4) (numbers_of c).stands (simp length-put16 (omega (arith, length-formed))) F.stands)
+      ∙ read_back c
 
 ----------------------------------------------------------------
 -- A node that is put

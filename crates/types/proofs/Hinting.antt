@@ -1,8 +1,8 @@
 -- Hints at products: what is kept where one is put, what a hint that is held to its parts tells, and the product of two types by what is found.
 use Prim.Native.Nat.{ℕ, ◌+◌, ◌<◌, ◌≤◌, min}
 use native.Mathlib.Omega.{arith}
-use mathlib.Core.Path.{◌≡◌, refl, sym, ap, ap₂, ◌∙◌}
-use mathlib.Core.Bool.{true, false, false≢true}
+use mathlib.Core.Path.{◌≡◌, refl, sym, ap, ap₂, subst, ◌∙◌}
+use Rattle.std.specs.Prelude.{Some, None}
 use mathlib.Core.List.{List}
 use lib.ListN.{length, get_or}
 use borrow.Author.Tests.{le-leb, lt-leb}
@@ -10,12 +10,13 @@ use package.Rattle.rules.specs.Limits.{max_types, max_terms, max_nodes}
 use package.Rattle.rules.specs.Ty.{Ty, prod, nodes}
 use package.Rattle.calls.specs.Entries.{TypeEntry}
 use package.Rattle.calls.specs.Figures.{ceiling}
-use package.Rattle.program.specs.Kinds.{product_kind}
 use package.Rattle.types.specs.declared.codes.Code.{Code}
+use package.Rattle.types.specs.declared.products.Pairing.{Pairing}
+use package.Rattle.types.specs.declared.shapes.Shape.TheVariants as shape
 use package.Rattle.types.specs.Layout.{hints_from}
 use package.Rattle.types.specs.Figures.{Figured}
-use package.Rattle.types.specs.Codes.{unit_form, entry_form, under_form, product_form, Room, unit_code, product_code, tree_in, Known, Sources}
-use package.Rattle.types.specs.Shapes.{of_kind, shape_tree, plain_shape, Settled}
+use package.Rattle.types.specs.Codes.{Room, product_code, tree_in, Known, Sources}
+use package.Rattle.types.specs.Shapes.{shape_tree, Shaped, Settled}
 use package.Rattle.types.specs.Growth.{put_code, put_node, Agree, Noted, Hinted, Grown, Formed, Made}
 use package.Rattle.types.proofs.Figuring.{figured-same}
 use package.Rattle.types.proofs.Growing.{Fitting, length_code, code_low, agree_refl, agree_trans, agree-down, tree-kept, sources-kept, grown}
@@ -30,69 +31,32 @@ noted-put heap i c h w = record {
   lengths = sym (ap length w ∙ length_code heap i c);
 }
 
-pub noted_none : (heap : List ℕ) → Noted heap heap
-noted_none heap = record { same = λ j l. refl; lengths = refl }
-
 pub noted-agree : {top : ℕ} {heap heap' : List ℕ} → top ≤ max_terms → Noted heap heap' → Agree top heap heap'
 noted-agree few N = record { same = λ i h. N.same i (omega arith); behind = λ i l h. N.same i h; lengths = N.lengths }
 
 pub noted-figured : {ys : List TypeEntry} {n : ℕ} {heap heap' : List ℕ} → n ≤ max_types → Figured ys heap n → Noted heap heap' → Figured ys heap' n
 noted-figured few F N = figured-same F N.lengths λ j l h. N.same j (omega arith)
 
-----------------------------------------------------------------
--- A hint that names what is there
-
-module _ {n top : ℕ} {c : Code} where
-  pub known-product : c.form ≡ product_form → c.at < top → Known n top c
-  known-product e l = record {
-    form = omega arith;
-    entry = λ h h'. absurd (omega arith);
-    stands = λ q. absurd (omega arith);
-    product = λ q. l;
-  }
-
-  pub known-entry : c.form ≡ entry_form → c.at < n → Known n top c
-  known-entry e l = record {
-    form = omega arith;
-    entry = λ h h'. l;
-    stands = λ q. absurd (omega arith);
-    product = λ q. absurd (omega arith);
-  }
-
-  pub known_under : c.form ≡ under_form → c.at < n → c.stands < n → Known n top c
-  known_under e l m = record {
-    form = omega arith;
-    entry = λ h h'. l;
-    stands = λ q. m;
-    product = λ q. absurd (omega arith);
-  }
-
-----------------------------------------------------------------
 -- A hint held to the parts
 
-module _ {xs types heap : List ℕ} {top : ℕ} {c d : Code} (T : Settled xs types heap top c d) {kind : ℕ} (k : kind ≡ (plain_shape xs types heap d).kind)
-    (e : kind ≡ product_kind) where
-  parts-tree : tree_in xs types heap c
-      ≡ prod (tree_in xs types heap (plain_shape xs types heap d).first) (tree_in xs types heap (plain_shape xs types heap d).second)
-  unfolding shape_tree of_kind
-  parts-tree = sym T.shaped.tree ∙ rw (← k, e)
+pub pair-tree : {xs types heap : List ℕ} {top : ℕ} {c a b l r left right : Code} → Shaped xs types heap top c (shape.Product a b)
+    → Settled xs types heap top a l → l ≡ left → Settled xs types heap top b r → r ≡ right
+    → tree_in xs types heap c ≡ prod (tree_in xs types heap left) (tree_in xs types heap right)
+unfolding shape_tree
+pair-tree {xs} {types} {heap} S U q U' q' =
+    sym S.tree ∙ ap₂ prod (sym U.tree ∙ ap (tree_in xs types heap) q) (sym U'.tree ∙ ap (tree_in xs types heap) q')
 
-  module _ {a l left : Code} (p : a ≡ (plain_shape xs types heap d).first) (U : Settled xs types heap top a l) (q : l ≡ left)
-      {b r right : Code} (p' : b ≡ (plain_shape xs types heap d).second) (U' : Settled xs types heap top b r) (q' : r ≡ right) where
-    pub pair-tree : tree_in xs types heap c ≡ prod (tree_in xs types heap left) (tree_in xs types heap right)
-    pair-tree = parts-tree
-        ∙ ap₂ prod (ap (tree_in xs types heap) (sym p) ∙ sym U.tree ∙ ap (tree_in xs types heap) q)
-        (ap (tree_in xs types heap) (sym p') ∙ sym U'.tree ∙ ap (tree_in xs types heap) q')
+none_some : {A : Type 0} {a : A} → None ≡ Some a → ⊥
+none_some p = let z : ◌≡◌ {A = ℕ} 0 1 = cc in omega arith
+
+some_one : {A : Type 0} {a b : A} → Some a ≡ Some b → a ≡ b
+some_one p = cc
 
 pub hint_right : {xs types heap : List ℕ} {top : ℕ} {left right c : Code} → Known (length types) top c
-    → tree_in xs types heap c ≡ prod (tree_in xs types heap left) (tree_in xs types heap right) → Hinted xs types heap top left right c
-hint_right K e = record { known = λ n. K; tree = λ n. e }
-
--- unit's code tells nothing
-pub hint_none : (xs types heap : List ℕ) (top : ℕ) (left right : Code) {c : Code} → c ≡ unit_code → Hinted xs types heap top left right c
-hint_none xs types heap top left right e = record {
-  known = λ n. absurd (n (ap (λ (c : Code). c.form) e));
-  tree = λ n. absurd (n (ap (λ (c : Code). c.form) e));
+    → tree_in xs types heap c ≡ prod (tree_in xs types heap left) (tree_in xs types heap right) → Hinted xs types heap top left right (Some c)
+hint_right {xs} {types} {heap} {top} {left} {right} K e = record {
+  known = λ d p. subst (Known (length types) top) (some_one p) K;
+  tree = λ d p. subst (λ d. tree_in xs types heap d ≡ prod (tree_in xs types heap left) (tree_in xs types heap right)) (some_one p) e;
 }
 
 ----------------------------------------------------------------
@@ -111,11 +75,11 @@ module _ {xs types heap : List ℕ} {top : ℕ} (S : Sources xs types heap top) 
     unfolding nodes ceiling
     both-counted = omega arith
 
-    pub made_large : max_nodes < m → {c : Code} → Made xs types heap heap top left right (record { fits = false; code = c; top = top })
+    pub made_large : max_nodes < m → Made xs types heap heap top left right None
     unfolding ceiling
     made_large h = record {
       answer = sym (lt-leb (nodes (prod a b)) max_nodes (omega (arith, both-counted)));
-      formed = λ e. absurd (false≢true e);
+      formed = λ q e. absurd (none_some e);
       old = λ e. refl;
     }
 
@@ -128,22 +92,22 @@ module _ {xs types heap : List ℕ} {top : ℕ} (S : Sources xs types heap top) 
       same-tree = ap₂ prod T.tree T'.tree
 
       made : {heap' : List ℕ} {c : Code} {top' : ℕ} → Formed xs types heap heap' top (prod a b) c top'
-          → Made xs types heap heap' top left right (record { fits = true; code = c; top = top' })
-      made F = record {
+          → Made xs types heap heap' top left right (Some (record { code = c; top = top' }))
+      made {heap'} F = record {
         answer = sym (le-leb (nodes (prod a b)) max_nodes (omega (arith, exact)));
-        formed = λ e. F;
-        old = λ e. absurd (false≢true (sym e));
+        formed = λ q e. subst (λ (q : Pairing). Formed xs types heap heap' top (prod a b) q.code q.top) (some_one e) F;
+        old = λ e. absurd (none_some (sym e));
       }
 
-      pub made_found : {c : Code} → Hinted xs types heap top first second c → ¬ (c.form ≡ unit_form)
-          → Made xs types heap heap top left right (record { fits = true; code = c; top = top })
-      made_found H n = made (record {
+      pub made_found : {c : Code} → Hinted xs types heap top first second (Some c)
+          → Made xs types heap heap top left right (Some (record { code = c; top = top }))
+      made_found H = made (record {
         sources = S;
         agree = agree_refl top heap;
         least = omega arith;
         most = omega arith;
-        known = H.known n;
-        tree = H.tree n ∙ same-tree;
+        known = H.known _ refl;
+        tree = H.tree _ refl ∙ same-tree;
       })
 
       module _ (room : Room heap (top + 1)) (F : Fitting first) (F' : Fitting second) (few : top < max_terms) {heap₁ heap₂ : List ℕ}
@@ -154,7 +118,7 @@ module _ {xs types heap : List ℕ} {top : ℕ} (S : Sources xs types heap top) 
         later : Agree (top + 1) heap₁ heap₂
         later = noted-agree (omega arith) N
 
-        pub made-new : {c : Code} → c ≡ product_code top → Made xs types heap heap₂ top left right (record { fits = true; code = c; top = top + 1 })
+        pub made-new : {c : Code} → c ≡ product_code top → Made xs types heap heap₂ top left right (Some (record { code = c; top = top + 1 }))
         made-new q = rw q (made (record {
           sources = sources-kept node-grown.sources later;
           agree = agree_trans node-grown.agree (agree-down top (omega arith) later);

@@ -7,12 +7,10 @@ pub mod Figuring
 pub mod Trees
 -- the outermost node of a code's tree, and its parts
 pub mod Outer
--- the same, read off the entry or product that a settled code names
+-- settling
 pub mod Plain
--- when two types are equal, by their outermost nodes
+-- when two types are equal, by their settled codes and outermost nodes
 pub mod Equal
--- the same by settled codes
-pub mod Alike
 -- what a recursive entry unfolds to
 pub mod Unfold
 -- how many nodes a type has

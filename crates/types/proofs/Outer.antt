@@ -3,12 +3,11 @@ use Prim.Native.Nat.{ℕ, zero, suc, ◌+◌, ◌<◌, ◌≤◌, pred}
 use native.Mathlib.Omega.{arith}
 use native.Mathlib.Decide.{dec_lt}
 use mathlib.Core.Path.{◌≡◌, refl, sym, ap, ap₂, subst, ◌∙◌}
-use mathlib.Core.Bool.{Bool, true, false, ◌&&◌, cond}
+use mathlib.Core.Bool.{Bool, true, false, cond}
 use mathlib.Core.List.{List, [], ◌∷◌, map}
 use lib.ListN.{length, get_or}
 use lib.Dec.{eqb, leb}
-use borrow.Author.Tests.{eq-eqb, ne_eqb, eqb-true}
-use package.Rattle.rules.specs.Limits.{max_types}
+use borrow.Author.Tests.{eq-eqb, ne_eqb}
 use package.Rattle.rules.specs.Ty.{Ty, prod, sum, mu, plug}
 use package.Rattle.rules.proofs.Basics.{given, and_both, eqb-sound}
 use package.Rattle.rules.proofs.Typing.Tests.{leb-sound}
@@ -23,40 +22,46 @@ use package.Rattle.program.proofs.Rooms.{type-kind-room, prod-room, sum_room, mu
 use package.Rattle.program.proofs.Shapes.{type-unit, type-prod, type-sum, type-mu, type-var}
 use package.Rattle.program.specs.Kinds.{unit_type_kind, recursive_kind, type_variable_kind}
 use package.Rattle.types.specs.declared.codes.Code.{Code}
+use package.Rattle.types.specs.declared.codes.Code.TheVariants as code
 use package.Rattle.types.specs.declared.shapes.Shape.{Shape}
+use package.Rattle.types.specs.declared.shapes.Shape.TheVariants as shape
 use package.Rattle.types.specs.Figures.{free_at, closed_by}
-use package.Rattle.types.specs.Codes.{unit_form, entry_form, under_form, product_form, Room, unit_code, entry_code, under_code, product_code, tree_of, tree_in, Readable, Known, Sources}
-use package.Rattle.types.specs.Shapes.{of_kind, shape_tree, node, leaf, part, entry_shape, product_shape, Shaped}
+use package.Rattle.types.specs.Codes.{unit_code, entry_code, under_code, product_code, left_at, right_at, of_code, tree_of, Readable, Names, Known, Sources}
+use package.Rattle.types.specs.Shapes.{shape_tree, part, entry_shape, Parts, Shaped}
 use package.Rattle.types.proofs.Closing.{closed-part, closed-under}
-use package.Rattle.types.proofs.Trees.{tree-unit, tree-entry, tree-under, tree-product, product-parts}
-
-pub same-node : (k v : ℕ) {a a' b b' : Code} → a ≡ a' → b ≡ b' → node k v a b ≡ node k v a' b'
-same-node k v p q = λ i. node k v (p i) (q i)
+use package.Rattle.types.proofs.Trees.{tree-product, product-parts}
 
 ----------------------------------------------------------------
 -- The node of an entry, by the kind in its field at `at`
 
-module _ (xs heap : List ℕ) (at : ℕ) (c : Code) where
-  pub unit-node : kind_at xs at ≡ 0 → leaf 0 0 ≡ entry_shape heap (type_at xs at) c
+module _ (xs heap : List ℕ) {at at' : ℕ} (c : Code) (f : at ≡ at') where
+  at-unit : 0 ≡ kind_at xs at → shape.Unit ≡ entry_shape heap (type_at xs at) c
   unfolding entry_shape
-  unit-node e = rw (type-unit xs at e)
+  at-unit e = rw (type-unit xs at (sym e))
 
-  -- a product or a sum
-  pub two-node : (k : ℕ) → kind_at xs at ≡ k → ¬ (k ≡ 0) → k < 3
-      → node k 0 (part heap c (first xs at) 0) (part heap c (second xs at) 0) ≡ entry_shape heap (type_at xs at) c
-  unfolding entry_shape
-  two-node zero e z l = absurd (z refl)
-  two-node (suc zero) e z l = rw (type-prod xs at e)
-  two-node (suc (suc zero)) e z l = rw (type-sum xs at e)
-  two-node (suc (suc (suc k))) e z l = absurd (omega arith)
+  moved : {s : Shape} → s ≡ entry_shape heap (type_at xs at) c → s ≡ entry_shape heap (type_at xs at') c
+  moved p = p ∙ ap (λ at. entry_shape heap (type_at xs at) c) f
 
-  pub mu-node : kind_at xs at ≡ 3 → node 3 0 (part heap c (first xs at) 1) unit_code ≡ entry_shape heap (type_at xs at) c
-  unfolding entry_shape
-  mu-node e = rw (type-mu xs at e)
+  pub shape-unit : 0 ≡ kind_at xs at → shape.Unit ≡ entry_shape heap (type_at xs at') c
+  shape-unit e = moved (at-unit e)
 
-  pub var-node : 4 ≤ kind_at xs at → leaf 4 (variable xs at) ≡ entry_shape heap (type_at xs at) c
+  module _ {x a : ℕ} {left right : Code} (p : x ≡ first xs at) (q : left ≡ part heap c x 0) (p' : a ≡ second xs at) (q' : right ≡ part heap c a 0) where
+    pub shape-product : 1 ≡ kind_at xs at → shape.Product left right ≡ entry_shape heap (type_at xs at') c
+    unfolding entry_shape
+    shape-product e = moved (ap₂ shape.Product (q ∙ ap (λ x. part heap c x 0) p) (q' ∙ ap (λ a. part heap c a 0) p') ∙ rw (type-prod xs at (sym e)))
+
+    pub shape-sum : 2 ≡ kind_at xs at → shape.Sum left right ≡ entry_shape heap (type_at xs at') c
+    unfolding entry_shape
+    shape-sum e = moved (ap₂ shape.Sum (q ∙ ap (λ x. part heap c x 0) p) (q' ∙ ap (λ a. part heap c a 0) p') ∙ rw (type-sum xs at (sym e)))
+
+  pub shape-recursive : {x : ℕ} {body : Code} → x ≡ first xs at → body ≡ part heap c x 1 → 3 ≡ kind_at xs at
+      → shape.Recursive body ≡ entry_shape heap (type_at xs at') c
   unfolding entry_shape
-  var-node h = rw (type-var xs at h)
+  shape-recursive p q e = moved (ap shape.Recursive (q ∙ ap (λ x. part heap c x 1) p) ∙ rw (type-mu xs at (sym e)))
+
+  pub shape-variable : {x : ℕ} → x ≡ variable xs at → 4 ≡ kind_at xs at → shape.Variable x ≡ entry_shape heap (type_at xs at') c
+  unfolding entry_shape
+  shape-variable p e = moved (ap shape.Variable p ∙ rw (type-var xs at (omega (arith, e))))
 
 -- there are five kinds of types
 pub few_kinds : {xs : List ℕ} {at : ℕ} → TypeField xs at → kind_at xs at ≤ 4
@@ -75,31 +80,10 @@ at_place xs [] i l = absurd (omega arith)
 at_place xs (t ∷ types) zero l = refl
 at_place xs (t ∷ types) (suc i) l = at_place xs types i (omega arith)
 
--- The same, as the code finds it: `at` is the offset in place `i` of the offsets, which is the code's entry; the parts come by name.
-module _ (xs types heap : List ℕ) (c : Code) {i at kind : ℕ} (e : i ≡ c.at) (f : at ≡ get_or types i 0) (g : kind ≡ kind_at xs at) where
-  found : {s : Shape} → s ≡ entry_shape heap (type_at xs at) c → s ≡ entry_shape heap (type_at xs (get_or types c.at 0)) c
-  found p = p ∙ ap (λ at. entry_shape heap (type_at xs at) c) (f ∙ ap (λ i. get_or types i 0) e)
-
-  pub found-two : {a b : Code} {x y : ℕ} → x ≡ first xs at → a ≡ part heap c x 0 → y ≡ second xs at → b ≡ part heap c y 0
-      → ¬ (kind ≡ unit_type_kind) → kind < recursive_kind → node kind 0 a b ≡ entry_shape heap (type_at xs (get_or types c.at 0)) c
-  found-two q p q' p' z l =
-      found (same-node kind 0 (p ∙ ap (λ x. part heap c x 0) q) (p' ∙ ap (λ x. part heap c x 0) q') ∙ two-node xs heap at c kind (sym g) z l)
-
-  pub found-mu : {a b : Code} {x : ℕ} → x ≡ first xs at → a ≡ part heap c x 1 → b ≡ unit_code → kind ≡ recursive_kind
-      → node 3 0 a b ≡ entry_shape heap (type_at xs (get_or types c.at 0)) c
-  found-mu q p p' k = found (same-node 3 0 (p ∙ ap (λ x. part heap c x 1) q) p' ∙ mu-node xs heap at c (sym g ∙ k))
-
-  pub found-var : {s : Shape} {x : ℕ} → x ≡ variable xs at → s ≡ leaf 4 x → 3 ≤ kind → ¬ (kind ≡ recursive_kind)
-      → s ≡ entry_shape heap (type_at xs (get_or types c.at 0)) c
-  found-var q p l n = found (p ∙ ap (leaf 4) q ∙ var-node xs heap at c (omega (arith, g)))
-
 -- The field at that offset is well-formed, so that it holds the parts of its kind.
 module _ {xs types : List ℕ} (R : Readable xs types) {n i at : ℕ} (l : n < length types) (e : i ≡ n) (f : at ≡ get_or types i 0) where
-  field_at_lem : TypeField xs at
+  pub field_at_lem : TypeField xs at
   field_at_lem = subst (TypeField xs) (sym (f ∙ ap (λ i. get_or types i 0) e)) (R.field n l)
-
-  pub few-at : kind_at xs at ≤ 4
-  few-at = few_kinds field_at_lem
 
   pub kind-there : at + 4 ≤ length xs
   kind-there = type-kind-room field_at_lem
@@ -152,136 +136,125 @@ module _ {xs types : List ℕ} (R : Readable xs types) {n i at : ℕ} (l : n < l
 ----------------------------------------------------------------
 -- A part, by whether the variable stands in it
 
-module _ (heap : List ℕ) (c : Code) (i up : ℕ) where
-  by_tests : {b b' : Bool} → eqb c.form under_form ≡ b → eqb (free_at heap i) (free_at heap c.at + up) ≡ b'
-      → part heap c i up ≡ cond (b && b') (under_code i c.stands) (entry_code i)
+module _ (heap : List ℕ) (i j a up : ℕ) {f g : ℕ} (p : f ≡ free_at heap a) (q : g ≡ free_at heap i) where
+  pub part_open : f ≡ g + up → under_code a j ≡ part heap (under_code i j) a up
   unfolding part
-  by_tests p q = ap₂ (λ b b'. cond (b && b') (under_code i c.stands) (entry_code i)) p q
+  part_open s = sym (ap (λ b. cond b (under_code a j) (entry_code a)) (eq-eqb (free_at heap a) (free_at heap i + up) (omega arith)))
 
-  pub part-plain : {r : Code} → ¬ (c.form ≡ under_form) → r ≡ entry_code i → r ≡ part heap c i up
-  part-plain n q = q ∙ sym (by_tests (ne_eqb c.form under_form n) refl)
+  pub part-closed : ¬ (f ≡ g + up) → entry_code a ≡ part heap (under_code i j) a up
+  unfolding part
+  part-closed s = sym (ap (λ b. cond b (under_code a j) (entry_code a))
+      (ne_eqb (free_at heap a) (free_at heap i + up) λ t. s (let z : f ≡ g + up = omega arith in z)))
 
-  module _ (e : c.form ≡ under_form) {f g : ℕ} (p : f ≡ free_at heap i) (p' : g ≡ free_at heap c.at) where
-    pub part_open : {r : Code} → f ≡ g + up → r ≡ under_code i c.stands → r ≡ part heap c i up
-    part_open s q = q ∙ sym (by_tests (eq-eqb c.form under_form e) (eq-eqb (free_at heap i) (free_at heap c.at + up) (omega arith)))
-
-    pub part-closed : {r : Code} → ¬ (f ≡ g + up) → r ≡ entry_code i → r ≡ part heap c i up
-    part-closed s q =
-        q ∙ sym (by_tests (eq-eqb c.form under_form e) (ne_eqb (free_at heap i) (free_at heap c.at + up) λ t. s (let z : f ≡ g + up = omega arith in z)))
+pub part-plain : (heap : List ℕ) (c : Code) (a up : ℕ) → ((i j : ℕ) → ¬ (c ≡ under_code i j)) → entry_code a ≡ part heap c a up
+unfolding part
+part-plain heap code.Unit a up n = refl
+part-plain heap (code.Entry i) a up n = refl
+part-plain heap (code.Under i j) a up n = absurd (n i j refl)
+part-plain heap (code.Product k) a up n = refl
 
 ----------------------------------------------------------------
 -- The node's tree, over the parts of an entry
 
 module _ (ys : List TypeEntry) (heap : List ℕ) where
-  -- a part of an entry as it stands
-  part-entry : (c : Code) (a up : ℕ) → c.form ≡ entry_form → tree_of ys heap (part heap c a up) ≡ type_of ys a
-  unfolding part
-  part-entry c a up e =
-      ap (λ n. tree_of ys heap (cond (eqb n under_form && eqb (free_at heap a) (free_at heap c.at + up)) (under_code a c.stands) (entry_code a))) e
-      ∙ tree-entry ys heap (entry_code a) refl
+  -- an entry as it stands
+  entry-tree : (i : ℕ) (y : TypeEntry) → shape_tree ys heap (entry_shape heap y (entry_code i)) ≡ type_tree (type_of ys) y
+  unfolding shape_tree entry_shape part tree_of of_code type_tree
+  entry-tree i y_unit = refl
+  entry-tree i (y_prod a b) = refl
+  entry-tree i (y_sum a b) = refl
+  entry-tree i (y_mu a) = refl
+  entry-tree i (y_var k) = refl
 
-  entry-tree : (c : Code) → c.form ≡ entry_form → (y : TypeEntry) → shape_tree ys heap (entry_shape heap y c) ≡ type_tree (type_of ys) y
-  unfolding shape_tree of_kind entry_shape type_tree
-  entry-tree c e y_unit = refl
-  entry-tree c e (y_prod a b) = ap₂ prod (part-entry c a 0 e) (part-entry c b 0 e)
-  entry-tree c e (y_sum a b) = ap₂ sum (part-entry c a 0 e) (part-entry c b 0 e)
-  entry-tree c e (y_mu a) = ap mu (part-entry c a 1 e)
-  entry-tree c e (y_var k) = refl
-
-  -- a part of an entry whose outermost free variable stands for another
-  part-under : (c : Code) (a up : ℕ) → c.form ≡ under_form
-      → tree_of ys heap (part heap c a up)
-      ≡ cond (eqb (free_at heap a) (free_at heap c.at + up)) (closed_by (type_of ys c.stands) (type_of ys a)) (type_of ys a)
-  unfolding part
-  part-under c a up e =
-      ap (λ n. tree_of ys heap (cond (eqb n under_form && eqb (free_at heap a) (free_at heap c.at + up)) (under_code a c.stands) (entry_code a))) e
-      ∙ either (eqb (free_at heap a) (free_at heap c.at + up))
-    where
-      either : (b : Bool) → tree_of ys heap (cond b (under_code a c.stands) (entry_code a))
-          ≡ cond b (closed_by (type_of ys c.stands) (type_of ys a)) (type_of ys a)
-      either true = tree-under ys heap (under_code a c.stands) refl
-      either false = tree-entry ys heap (entry_code a) refl
-
-  module _ (c : Code) (e : c.form ≡ under_form) where
+  -- an entry whose outermost free variable stands for another
+  module _ (i j : ℕ) where
     abbrev τ : Ty
-    τ = type_of ys c.stands
+    τ = type_of ys j
+
+    part-under : (a up : ℕ) → tree_of ys heap (part heap (under_code i j) a up)
+        ≡ cond (eqb (free_at heap a) (free_at heap i + up)) (closed_by τ (type_of ys a)) (type_of ys a)
+    unfolding part tree_of of_code
+    part-under a up = either (eqb (free_at heap a) (free_at heap i + up))
+      where
+        either : (b : Bool) → tree_of ys heap (cond b (under_code a j) (entry_code a)) ≡ cond b (closed_by τ (type_of ys a)) (type_of ys a)
+        either true = refl
+        either false = refl
 
     -- in a product or a sum, of whose variables `n` are free
-    part-two : (a n : ℕ) → free_at heap c.at ≡ n → free_at heap a ≡ free (type_of ys a) → free (type_of ys a) ≤ n
-        → tree_of ys heap (part heap c a 0) ≡ plug τ (pred n) (type_of ys a)
+    part-two : (a n : ℕ) → free_at heap i ≡ n → free_at heap a ≡ free (type_of ys a) → free (type_of ys a) ≤ n
+        → tree_of ys heap (part heap (under_code i j) a 0) ≡ plug τ (pred n) (type_of ys a)
     part-two a n p q h =
-        part-under c a 0 e
-        ∙ ap (λ b. cond b (closed_by τ (type_of ys a)) (type_of ys a)) (ap₂ eqb q (let z : free_at heap c.at + 0 ≡ n = omega (arith, p) in z))
+        part-under a 0
+        ∙ ap (λ b. cond b (closed_by τ (type_of ys a)) (type_of ys a)) (ap₂ eqb q (let z : free_at heap i + 0 ≡ n = omega (arith, p) in z))
         ∙ sym (closed-part τ (type_of ys a) n h)
 
-    part-mu : (a : ℕ) → free_at heap c.at ≡ pred (free (type_of ys a)) → free_at heap a ≡ free (type_of ys a) → 0 < free_at heap c.at
-        → tree_of ys heap (part heap c a 1) ≡ closed_by τ (type_of ys a)
+    part-mu : (a : ℕ) → free_at heap i ≡ pred (free (type_of ys a)) → free_at heap a ≡ free (type_of ys a) → 0 < free_at heap i
+        → tree_of ys heap (part heap (under_code i j) a 1) ≡ closed_by τ (type_of ys a)
     part-mu a p q h =
-        part-under c a 1 e
-        ∙ ap (λ b. cond b (closed_by τ (type_of ys a)) (type_of ys a)) (eq-eqb (free_at heap a) (free_at heap c.at + 1) (omega (arith, p, q, h)))
+        part-under a 1
+        ∙ ap (λ b. cond b (closed_by τ (type_of ys a)) (type_of ys a)) (eq-eqb (free_at heap a) (free_at heap i + 1) (omega (arith, p, q, h)))
 
     module _ {n : ℕ} (frees : (i : ℕ) → i < n → free_at heap i ≡ free (type_of ys i)) where
-      under-tree : (y : TypeEntry) → below n (types_of_type y) ≡ true → free_at heap c.at ≡ free (type_tree (type_of ys) y) → 0 < free_at heap c.at
-          → ¬ ((entry_shape heap y c).kind ≡ type_variable_kind) → shape_tree ys heap (entry_shape heap y c) ≡ closed_by τ (type_tree (type_of ys) y)
-      unfolding shape_tree of_kind entry_shape type_tree types_of_type closed_by plug free
+      under-tree : (y : TypeEntry) → below n (types_of_type y) ≡ true → free_at heap i ≡ free (type_tree (type_of ys) y) → 0 < free_at heap i
+          → ((k : ℕ) → ¬ (y ≡ y_var k)) → shape_tree ys heap (entry_shape heap y (under_code i j)) ≡ closed_by τ (type_tree (type_of ys) y)
+      unfolding shape_tree entry_shape type_tree types_of_type closed_by plug free
       under-tree y_unit l p h v = refl
-      under-tree (y_prod a b) l p h v = given (below-head n a _ l) λ (i, l₁). given (below-head n b _ l₁) λ (j, l₂).
-          ap₂ prod (part-two a _ p (frees a i) (omega arith)) (part-two b _ p (frees b j) (omega arith))
-      under-tree (y_sum a b) l p h v = given (below-head n a _ l) λ (i, l₁). given (below-head n b _ l₁) λ (j, l₂).
-          ap₂ sum (part-two a _ p (frees a i) (omega arith)) (part-two b _ p (frees b j) (omega arith))
-      under-tree (y_mu a) l p h v = given (below-head n a _ l) λ (i, l₁).
-          ap mu (part-mu a p (frees a i) h) ∙ sym (closed-under τ (type_of ys a) (subst (λ m. 0 < m) p h))
-      under-tree (y_var k) l p h v = absurd (v refl)
+      under-tree (y_prod a b) l p h v = given (below-head n a _ l) λ (x, l₁). given (below-head n b _ l₁) λ (x', l₂).
+          ap₂ prod (part-two a _ p (frees a x) (omega arith)) (part-two b _ p (frees b x') (omega arith))
+      under-tree (y_sum a b) l p h v = given (below-head n a _ l) λ (x, l₁). given (below-head n b _ l₁) λ (x', l₂).
+          ap₂ sum (part-two a _ p (frees a x) (omega arith)) (part-two b _ p (frees b x') (omega arith))
+      under-tree (y_mu a) l p h v = given (below-head n a _ l) λ (x, l₁).
+          ap mu (part-mu a p (frees a x) h) ∙ sym (closed-under τ (type_of ys a) (subst (λ m. 0 < m) p h))
+      under-tree (y_var k) l p h v = absurd (v k refl)
 
 ----------------------------------------------------------------
 -- The parts are known
 
 module _ {n top : ℕ} where
   pub known_up : {low : ℕ} {c : Code} → low ≤ top → Known n low c → Known n top c
-  known_up le K = record { form = K.form; entry = K.entry; stands = K.stands; product = λ e. omega (arith, K.product e) }
+  known_up {low} {c} le K = record { names = by c K.names }
+    where
+      by : (c : Code) → Names n low c → Names n top c
+      by code.Unit h = h
+      by (code.Entry i) h = h
+      by (code.Under i j) h = h
+      by (code.Product k) h = omega arith
+
+  pub names_by : {c d : Code} → c ≡ d → Known n top c → Names n top d
+  names_by e K = (subst (Known n top) e K).names
 
   pub unit-known : Known n top unit_code
-  unit-known = record { form = omega arith; entry = λ l u. absurd (omega arith); stands = λ e. absurd (omega arith); product = λ e. absurd (omega arith) }
+  unit-known = record { names = tt }
 
   pub entry_known : (i : ℕ) → i < n → Known n top (entry_code i)
-  entry_known i h = record { form = omega arith; entry = λ l u. omega arith; stands = λ e. absurd (omega arith); product = λ e. absurd (omega arith) }
+  entry_known i h = record { names = h }
 
   pub under-known : (i j : ℕ) → i < n → j < n → Known n top (under_code i j)
-  under-known i j h k = record { form = omega arith; entry = λ l u. omega arith; stands = λ e. k; product = λ e. absurd (omega arith) }
+  under-known i j h k = record { names = (h, k) }
 
   pub product-known : (k : ℕ) → k < top → Known n top (product_code k)
-  product-known k h = record { form = omega arith; entry = λ l u. absurd (omega arith); stands = λ e. absurd (omega arith); product = λ e. h }
+  product-known k h = record { names = h }
 
   part-known : (heap : List ℕ) (c : Code) → Known n top c → (a up : ℕ) → a < n → Known n top (part heap c a up)
   unfolding part
-  part-known heap c K a up h = by_form (eqb c.form under_form) refl
+  part-known heap code.Unit K a up h = entry_known a h
+  part-known heap (code.Entry i) K a up h = entry_known a h
+  part-known heap (code.Under i j) K a up h = either (eqb (free_at heap a) (free_at heap i + up))
     where
-      either : (b : Bool) → c.form ≡ under_form → Known n top (cond b (under_code a c.stands) (entry_code a))
-      either true e = under-known a c.stands h (K.stands e)
-      either false e = entry_known a h
+      either : (b : Bool) → Known n top (cond b (under_code a j) (entry_code a))
+      either true = under-known a j h K.names.1
+      either false = entry_known a h
+  part-known heap (code.Product k) K a up h = entry_known a h
 
-      by_form : (b : Bool) → eqb c.form under_form ≡ b
-          → Known n top (cond (b && eqb (free_at heap a) (free_at heap c.at + up)) (under_code a c.stands) (entry_code a))
-      by_form true e = either (eqb (free_at heap a) (free_at heap c.at + up)) (eqb-true c.form under_form e)
-      by_form false e = entry_known a h
-
--- the kind is one of five, and the parts are known
-record Parted (n top : ℕ) (s : Shape) : Type 0 where
-  kind : s.kind ≤ type_variable_kind
-  first : Known n top s.first
-  second : Known n top s.second
-
-entry-parted : {n top : ℕ} (heap : List ℕ) (c : Code) → Known n top c → (y : TypeEntry) → below n (types_of_type y) ≡ true
-    → Parted n top (entry_shape heap y c)
-unfolding entry_shape types_of_type
-entry-parted heap c K y_unit e = record { kind = omega arith; first = unit-known; second = unit-known }
-entry-parted {n} heap c K (y_prod a b) e = given (below-head n a _ e) λ (l, e₁). given (below-head n b _ e₁) λ (l', e₂).
-    record { kind = omega arith; first = part-known heap c K a 0 l; second = part-known heap c K b 0 l' }
-entry-parted {n} heap c K (y_sum a b) e = given (below-head n a _ e) λ (l, e₁). given (below-head n b _ e₁) λ (l', e₂).
-    record { kind = omega arith; first = part-known heap c K a 0 l; second = part-known heap c K b 0 l' }
-entry-parted {n} heap c K (y_mu a) e = given (below-head n a _ e) λ (l, e₁).
-    record { kind = omega arith; first = part-known heap c K a 1 l; second = unit-known }
-entry-parted heap c K (y_var k) e = record { kind = omega arith; first = unit-known; second = unit-known }
+  entry-parted : (heap : List ℕ) (c : Code) → Known n top c → (y : TypeEntry) → below n (types_of_type y) ≡ true → Parts n top (entry_shape heap y c)
+  unfolding entry_shape types_of_type
+  entry-parted heap c K y_unit e = tt
+  entry-parted heap c K (y_prod a b) e = given (below-head n a _ e) λ (l, e₁). given (below-head n b _ e₁) λ (l', e₂).
+      (part-known heap c K a 0 l, part-known heap c K b 0 l')
+  entry-parted heap c K (y_sum a b) e = given (below-head n a _ e) λ (l, e₁). given (below-head n b _ e₁) λ (l', e₂).
+      (part-known heap c K a 0 l, part-known heap c K b 0 l')
+  entry-parted heap c K (y_mu a) e = given (below-head n a _ e) λ (l, e₁). part-known heap c K a 1 l
+  entry-parted heap c K (y_var k) e = tt
 
 ----------------------------------------------------------------
 -- The node of a code, by form
@@ -300,45 +273,33 @@ module _ {xs types : List ℕ} (R : Readable xs types) where
       ap (type_tree (type_of (map (type_at xs) types))) (sym (at_place xs types i l)) ∙ sym (type-unfolds (map (type_at xs) types) R.lower i)
 
 module _ {xs types heap : List ℕ} {top : ℕ} (S : Sources xs types heap top) where
-  module _ (c : Code) (K : Known (length types) top c) where
-    shaped : {r s : Shape} → r ≡ s → Parted (length types) top s → shape_tree (map (type_at xs) types) heap s ≡ tree_in xs types heap c
-        → Shaped xs types heap top c r
-    shaped q p e = subst (Shaped xs types heap top c) (sym q) (record { tree = e; kind = p.kind; first = p.first; second = p.second })
+  pub unit-shaped : Shaped xs types heap top unit_code shape.Unit
+  unfolding shape_tree tree_of of_code
+  unit-shaped = record { tree = refl; parts = tt }
 
-    pub unit-shaped : {r : Shape} → c.form ≡ unit_form → r ≡ leaf unit_type_kind 0 → Shaped xs types heap top c r
-    unfolding shape_tree of_kind
-    unit-shaped e q =
-        shaped q (record { kind = omega arith; first = unit-known; second = unit-known }) (sym (tree-unit (map (type_at xs) types) heap c e))
+  pub entry-shaped : (i : ℕ) → i < length types → Shaped xs types heap top (entry_code i) (entry_shape heap (type_at xs (get_or types i 0)) (entry_code i))
+  unfolding tree_of of_code
+  entry-shaped i l = record {
+    tree = entry-tree (map (type_at xs) types) heap i _ ∙ unfolds-at S.entries i l;
+    parts = entry-parted heap (entry_code i) (entry_known i l) _ (inside-at S.entries i l);
+  }
 
-    pub entry-there : entry_form ≤ c.form → c.form ≤ under_form → (c.at < length types) × (c.at < max_types)
-    entry-there l u = omega (arith, K.entry l u, S.entries.few)
+  -- of an open entry that is no variable
+  pub under-shaped : (i j : ℕ) → i < length types → j < length types → 0 < free_at heap i → ((k : ℕ) → ¬ (type_at xs (get_or types i 0) ≡ y_var k))
+      → Shaped xs types heap top (under_code i j) (entry_shape heap (type_at xs (get_or types i 0)) (under_code i j))
+  unfolding tree_of of_code
+  under-shaped i j l m o v = record {
+    tree = under-tree (map (type_at xs) types) heap i j S.figures.free_is _ (inside-at S.entries i l)
+        (S.figures.free_is i l ∙ ap free (sym (unfolds-at S.entries i l))) o v
+        ∙ ap (closed_by (type_of (map (type_at xs) types) j)) (unfolds-at S.entries i l);
+    parts = entry-parted heap (under_code i j) (under-known i j l m) _ (inside-at S.entries i l);
+  }
 
-    pub entry-shaped : {r : Shape} → c.form ≡ entry_form → r ≡ entry_shape heap (type_at xs (get_or types c.at 0)) c → Shaped xs types heap top c r
-    entry-shaped e q =
-        let l = (entry-there (omega arith) (omega arith)).0 in
-        shaped q (entry-parted heap c K _ (inside-at S.entries c.at l))
-        (entry-tree (map (type_at xs) types) heap c e _ ∙ unfolds-at S.entries c.at l ∙ sym (tree-entry (map (type_at xs) types) heap c e))
-
-    -- of an open entry that is no variable
-    pub under-shaped : {r : Shape} → c.form ≡ under_form → 0 < free_at heap c.at → r ≡ entry_shape heap (type_at xs (get_or types c.at 0)) c
-        → ¬ (r.kind ≡ type_variable_kind) → Shaped xs types heap top c r
-    under-shaped {r} e o q v =
-        let l = (entry-there (omega arith) (omega arith)).0 in
-        shaped q (entry-parted heap c K _ (inside-at S.entries c.at l))
-        (under-tree (map (type_at xs) types) heap c e S.figures.free_is _ (inside-at S.entries c.at l)
-        (S.figures.free_is c.at l ∙ ap free (sym (unfolds-at S.entries c.at l))) o (λ k. v (ap (λ (s : Shape). s.kind) q ∙ k))
-        ∙ ap (closed_by (type_of (map (type_at xs) types) c.stands)) (unfolds-at S.entries c.at l)
-        ∙ sym (tree-under (map (type_at xs) types) heap c e))
-
-    pub product-shaped : {r : Shape} → c.form ≡ product_form → r ≡ product_shape heap c.at → Shaped xs types heap top c r
-    unfolding shape_tree of_kind
-    product-shaped e q =
-        let N = S.products.node c.at (K.product e) in
-        shaped q (record { kind = omega arith; first = known_up (omega (arith, K.product e)) N.left; second = known_up (omega (arith, K.product e)) N.right })
-        (sym (product-parts S.products c.at (K.product e)) ∙ sym (tree-product (map (type_at xs) types) heap c e))
-
-    pub product-there : c.form ≡ product_form → Room heap (c.at + 1)
-    product-there e = omega (arith, K.product e, S.products.held)
-
-pub product-form : {n top : ℕ} {c : Code} → Known n top c → ¬ (c.form ≡ unit_form) → ¬ (c.form ≡ entry_form) → ¬ (c.form ≡ under_form) → c.form ≡ product_form
-product-form K a b d = omega (arith, K.form)
+  pub product-shaped : (k : ℕ) → k < top → Shaped xs types heap top (product_code k) (shape.Product (left_at heap k) (right_at heap k))
+  unfolding shape_tree
+  product-shaped k l =
+      let N = S.products.node k l in
+      record {
+        tree = sym (product-parts S.products k l) ∙ sym (tree-product (map (type_at xs) types) heap (product_code k) refl);
+        parts = (known_up (omega (arith, l)) N.left, known_up (omega (arith, l)) N.right);
+      }

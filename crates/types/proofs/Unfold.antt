@@ -1,5 +1,5 @@
 -- Laws of unfolding: which body an entry has by the kind in its field, and that it is of the unfolded type.
-use Prim.Native.Nat.{ℕ, zero, suc, ◌<◌, ◌≤◌}
+use Prim.Native.Nat.{ℕ, ◌<◌, ◌≤◌}
 use native.Mathlib.Omega.{arith}
 use mathlib.Core.Path.{◌≡◌, refl, sym, ap, ap₂, subst, ◌∙◌}
 use mathlib.Core.Bool.{true}
@@ -15,10 +15,11 @@ use package.Rattle.calls.specs.Tested.{closed}
 use package.Rattle.calls.proofs.Entries.{closed_iff_free, below-head}
 use package.Rattle.program.specs.Parts.{first}
 use package.Rattle.program.proofs.Shapes.{type-unit, type-prod, type-sum, type-mu, type-var}
-use package.Rattle.program.specs.Kinds.{recursive_kind}
+use package.Rattle.program.specs.declared.kinds.TypeKind.{TypeKind}
+use package.Rattle.program.specs.declared.kinds.TypeKind.TheVariants as T
+use package.Rattle.program.specs.KindNumbers.{type_kind_number}
 use package.Rattle.types.specs.declared.codes.Code.{Code}
-use package.Rattle.types.specs.declared.unfolding.Body.{Body}
-use package.Rattle.types.specs.declared.unfolding.Body.TheVariants.{Of, Other}
+use Rattle.std.specs.Prelude.{Option, Some, None}
 use package.Rattle.types.specs.Figures.{closed_by, number_at}
 use package.Rattle.types.specs.Codes.{entry_code, under_code, tree_in, Sources}
 use package.Rattle.types.specs.Unfolding.{body_of, Unfolds}
@@ -27,35 +28,35 @@ use package.Rattle.types.proofs.Closing.{closed-unfolds}
 use package.Rattle.types.proofs.Outer.{under-known, lower-at, unfolds-at}
 
 ----------------------------------------------------------------
--- By the kind in the entry's field at `at`, which stands in place `n` of the offsets
+-- By the kind in the entry's field at `at`
 
-module _ (xs types heap : List ℕ) (i : ℕ) {n at kind : ℕ} (e : n ≡ i) (f : at ≡ get_or types n 0) (g : kind ≡ kind_at xs at) where
-  found : {r : Body} → r ≡ body_of heap (type_at xs at) i → r ≡ body_of heap (type_at xs (get_or types i 0)) i
-  found p = p ∙ ap (λ at. body_of heap (type_at xs at) i) (f ∙ ap (λ n. get_or types n 0) e)
+module _ (xs types heap : List ℕ) (i : ℕ) {at : ℕ} (f : at ≡ get_or types i 0) where
+  found : {r : Option Code} → r ≡ body_of heap (type_at xs at) i → r ≡ body_of heap (type_at xs (get_or types i 0)) i
+  found p = p ∙ ap (λ at. body_of heap (type_at xs at) i) f
 
-  pub no_body : ¬ (kind ≡ recursive_kind) → Other ≡ body_of heap (type_at xs (get_or types i 0)) i
+  pub no_body : {kind : TypeKind} → type_kind_number kind ≡ kind_at xs at → ¬ (kind ≡ T.Recursive) → None ≡ body_of heap (type_at xs (get_or types i 0)) i
   unfolding body_of
-  no_body d = found (by kind (sym g) d)
+  no_body {kind} g d = found (by kind g d)
     where
-      by : (k : ℕ) → kind_at xs at ≡ k → ¬ (k ≡ 3) → Other ≡ body_of heap (type_at xs at) i
-      by zero q d = rw (type-unit xs at q) refl
-      by (suc zero) q d = rw (type-prod xs at q) refl
-      by (suc (suc zero)) q d = rw (type-sum xs at q) refl
-      by (suc (suc (suc zero))) q d = absurd (d refl)
-      by (suc (suc (suc (suc k)))) q d = rw (type-var xs at (omega arith)) refl
+      by : (k : TypeKind) → type_kind_number k ≡ kind_at xs at → ¬ (k ≡ T.Recursive) → None ≡ body_of heap (type_at xs at) i
+      by T.Unit g d = rw (type-unit xs at (sym g)) refl
+      by T.Product g d = rw (type-prod xs at (sym g)) refl
+      by T.Sum g d = rw (type-sum xs at (sym g)) refl
+      by T.Recursive g d = absurd (d refl)
+      by T.Variable g d = rw (type-var xs at (omega (arith, g))) refl
 
-  pub a_body : {c : Code} {x y z : ℕ} → kind ≡ recursive_kind → x ≡ first xs at → y ≡ number_at heap x → z ≡ number_at heap i → c ≡ under_code y z
-      → Of c ≡ body_of heap (type_at xs (get_or types i 0)) i
+  pub a_body : 3 ≡ kind_at xs at → {x y z : ℕ} → x ≡ first xs at → y ≡ number_at heap x → z ≡ number_at heap i
+      → Some (under_code y z) ≡ body_of heap (type_at xs (get_or types i 0)) i
   unfolding body_of
-  a_body k q m m' p = found (ap Of (p ∙ ap₂ under_code (m ∙ ap (number_at heap) q) m') ∙ rw (type-mu xs at (sym g ∙ k)))
+  a_body g q m m' = found (ap Some (ap₂ under_code (m ∙ ap (number_at heap) q) m') ∙ rw (type-mu xs at (sym g)))
 
 ----------------------------------------------------------------
 -- What the body is
 
-of_other : {c : Code} → Of c ≡ Other → ⊥
+of_other : {c : Code} → Some c ≡ None → ⊥
 of_other p = let z : ◌≡◌ {A = ℕ} 0 1 = cc in omega arith
 
-of_inj : {c d : Code} → Of c ≡ Of d → c ≡ d
+of_inj : {c d : Code} → Some c ≡ Some d → c ≡ d
 of_inj p = cc
 
 module _ {xs types heap : List ℕ} {top : ℕ} (S : Sources xs types heap top) (i : ℕ) (l : i < length types)
@@ -84,11 +85,11 @@ module _ {xs types heap : List ℕ} {top : ℕ} (S : Sources xs types heap top) 
       is : (a : ℕ) → type_at xs (get_or types i 0) ≡ y_mu a → type_of (map (type_at xs) types) i ≡ mu (type_of (map (type_at xs) types) a)
       is a e = sym (tree-entry (map (type_at xs) types) heap (entry_code i) refl) ∙ whole_tree (y_mu a) e
 
-  pub unfolds : {c : Code} → Of c ≡ body_of heap (type_at xs (get_or types i 0)) i → Unfolds xs types heap top i c
+  pub unfolds : {c : Code} → Some c ≡ body_of heap (type_at xs (get_or types i 0)) i → Unfolds xs types heap top i c
   unfolding body_of
   unfolds {c} p = by (type_at xs (get_or types i 0)) refl p
     where
-      by : (y : TypeEntry) → type_at xs (get_or types i 0) ≡ y → Of c ≡ body_of heap y i → Unfolds xs types heap top i c
+      by : (y : TypeEntry) → type_at xs (get_or types i 0) ≡ y → Some c ≡ body_of heap y i → Unfolds xs types heap top i c
       by y_unit e p = absurd (of_other p)
       by (y_prod a b) e p = absurd (of_other p)
       by (y_sum a b) e p = absurd (of_other p)
@@ -99,11 +100,11 @@ module _ {xs types heap : List ℕ} {top : ℕ} (S : Sources xs types heap top) 
   -- For the typing of roll and unroll (rules/specs/Check)
 
   module _ {A : Type 0} (at : Site) (f : Ty → Checked A) where
-    pub not_recursive : Other ≡ body_of heap (type_at xs (get_or types i 0)) i → as_mu at (tree_in xs types heap (entry_code i)) f ≡ bad 6 at
+    pub not_recursive : None ≡ body_of heap (type_at xs (get_or types i 0)) i → as_mu at (tree_in xs types heap (entry_code i)) f ≡ bad 6 at
     unfolding body_of as_mu type_tree
     not_recursive p = by (type_at xs (get_or types i 0)) refl p
       where
-        by : (y : TypeEntry) → type_at xs (get_or types i 0) ≡ y → Other ≡ body_of heap y i → as_mu at (tree_in xs types heap (entry_code i)) f ≡ bad 6 at
+        by : (y : TypeEntry) → type_at xs (get_or types i 0) ≡ y → None ≡ body_of heap y i → as_mu at (tree_in xs types heap (entry_code i)) f ≡ bad 6 at
         by y_unit e p = rw (whole_tree y_unit e)
         by (y_prod a b) e p = rw (whole_tree (y_prod a b) e)
         by (y_sum a b) e p = rw (whole_tree (y_sum a b) e)

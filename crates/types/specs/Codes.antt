@@ -11,41 +11,30 @@ use package.Rattle.program.specs.Parts.{TypeField}
 use package.Rattle.types.specs.Figures.{closed_by, Figured}
 pub use package.Rattle.types.specs.Layout.{node_bytes}
 use package.Rattle.types.specs.declared.codes.Code.{Code}
+use package.Rattle.types.specs.declared.codes.Code.TheVariants as code
+use package.Rattle.types.specs.Numbers.{code_of}
 
 ----------------------------------------------------------------
 -- Codes
 
--- their forms
-abbrev pub unit_form : ℕ
-unit_form = 0
-
-abbrev pub entry_form : ℕ
-entry_form = 1
-
-abbrev pub under_form : ℕ
-under_form = 2
-
-abbrev pub product_form : ℕ
-product_form = 3
-
 abbrev pub unit_code : Code
-unit_code = record { form = unit_form; at = 0; stands = 0 }
+unit_code = code.Unit
 
 abbrev pub entry_code : ℕ → Code
-entry_code i = record { form = entry_form; at = i; stands = 0 }
+entry_code i = code.Entry i
 
 -- the entry `i`, its outermost free variable standing for the entry `j`
 abbrev pub under_code : ℕ → ℕ → Code
-under_code i j = record { form = under_form; at = i; stands = j }
+under_code i j = code.Under i j
 
 abbrev pub product_code : ℕ → Code
-product_code n = record { form = product_form; at = n; stands = 0 }
+product_code n = code.Product n
 
 ----------------------------------------------------------------
 -- Product nodes: two codes (form, entry or node, entry that is stood for: two bytes each) and the nodes of the tree (2 bytes)
 
 unfoldable pub code_at : List ℕ → ℕ → Code
-code_at heap i = record { form = get16 heap i; at = get16 heap (i + 2); stands = get16 heap (i + 4) }
+code_at heap i = code_of (get16 heap i) (get16 heap (i + 2)) (get16 heap (i + 4))
 
 unfoldable pub left_at : List ℕ → ℕ → Code
 left_at heap n = code_at heap (node_bytes * n)
@@ -59,19 +48,16 @@ count_at heap n = get16 heap (node_bytes * n + 12)
 ----------------------------------------------------------------
 -- Trees
 
--- by form, the trees of product nodes given by `go`
-unfoldable pub of_form : List TypeEntry → (ℕ → Ty) → ℕ → ℕ → ℕ → Ty
-of_form ys go zero at stands = one
-of_form ys go (suc zero) at stands = type_of ys at
-of_form ys go (suc (suc zero)) at stands = closed_by (type_of ys stands) (type_of ys at)
-of_form ys go (suc (suc (suc n))) at stands = go at
-
+-- the trees of product nodes given by `go`
 unfoldable pub of_code : List TypeEntry → (ℕ → Ty) → Code → Ty
-of_code ys go c = of_form ys go c.form c.at c.stands
+of_code ys go code.Unit = one
+of_code ys go (code.Entry i) = type_of ys i
+of_code ys go (code.Under i j) = closed_by (type_of ys j) (type_of ys i)
+of_code ys go (code.Product n) = go n
 
 -- the tree of a product node, the parts followed so far down
 unfoldable pub product_within : ℕ → List TypeEntry → List ℕ → ℕ → Ty
-unfolding of_code of_form
+unfolding of_code
 product_within zero ys heap n = one
 product_within (suc down) ys heap n =
     prod (of_code ys (product_within down ys heap) (left_at heap n)) (of_code ys (product_within down ys heap) (right_at heap n))
@@ -100,12 +86,15 @@ pub record Readable (xs types : List ℕ) : Type 0 where
   pub lower : Lower (map (type_at xs) types)
   pub few : length types ≤ max_types
 
--- The code names one of `n` type entries, or a product node below `top`.
+-- What a code names is one of `n` type entries, or a product node below `top`.
+abbrev pub Names : ℕ → ℕ → Code → Type 0
+Names n top code.Unit = Unit {0}
+Names n top (code.Entry i) = i < n
+Names n top (code.Under i j) = (i < n) × (j < n)
+Names n top (code.Product k) = k < top
+
 pub record Known (n top : ℕ) (c : Code) : Type 0 where
-  pub form : c.form ≤ product_form
-  pub entry : entry_form ≤ c.form → c.form ≤ under_form → c.at < n
-  pub stands : c.form ≡ under_form → c.stands < n
-  pub product : c.form ≡ product_form → c.at < top
+  pub names : Names n top c
 
 -- The parts of the product node are lower, its count of nodes is right, and it is within the limit on nodes (section 1).
 pub record Right (ys : List TypeEntry) (n : ℕ) (heap : List ℕ) (k : ℕ) : Type 0 where

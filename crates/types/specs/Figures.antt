@@ -1,7 +1,7 @@
 -- What is kept of each type entry (02, F-4), made once, bottom up, so that nothing is counted while types are compared: a canonical number,
 -- which entries that are equal as trees share; what the nodes of an unfolding follow from; and an entry that a part of an unfolding is equal to, if
 -- one was found. Laws: proofs/Closing, Figuring.
-use Rattle.std.specs.Prelude.{ℕ, suc, ◌+◌, ◌*◌, ◌<◌, ◌≤◌, pred, min, ◌≡◌, cond, List, length, eqb}
+use Rattle.std.specs.Prelude.{ℕ, suc, ◌+◌, ◌*◌, ◌<◌, ◌≤◌, pred, min, ◌≡◌, cond, List, length, eqb, Option, Some, None}
 use package.Rattle.octets.specs.Numbers.{get16}
 use package.Rattle.rules.specs.Ty.{Ty, one, prod, sum, mu, tyvar, plug}
 use package.Rattle.calls.specs.Entries.{TypeEntry, type_of}
@@ -45,6 +45,10 @@ stand_at heap i = get16 heap (figures_from + figure_bytes * i + 6)
 
 unfoldable pub alias_at : List ℕ → ℕ → ℕ
 alias_at heap i = get16 heap (figures_from + figure_bytes * i + 8)
+
+-- the alias of entry `i` for entry `j`, if one is kept
+unfoldable pub alias_for : List ℕ → ℕ → ℕ → Option ℕ
+alias_for heap i j = cond (eqb (stand_at heap i) (j + 1)) (Some (alias_at heap i)) None
 
 -- Entry `i`, its outermost free variable standing for entry `j`, is equal as a tree to the entry that is its alias.
 pub record Alias (ys : List TypeEntry) (heap : List ℕ) (n i j : ℕ) : Type 0 where

@@ -3,6 +3,8 @@
 pub mod Layout
 -- what is kept of each type entry: canonical numbers, free variables
 pub mod Figures
+-- codes as numbers
+pub mod Numbers
 -- codes of types, and the tree of a code
 pub mod Codes
 -- the outermost node of a code's tree
@@ -15,3 +17,7 @@ pub mod Counts
 pub mod Growth
 -- how the figures of entries come about
 pub mod Numbering
+-- what codes stand on is one fact, so that a struct may keep it
+pub mod Once
+-- codes and keys by what the code holds together
+pub mod Basis

@@ -1,6 +1,6 @@
 -- How the figures of type entries come about, one entry after another, from those of the lower ones. Laws: proofs/Keys,
 -- Entering, Tracing.
-use Rattle.std.specs.Prelude.{ℕ, suc, ◌+◌, ◌*◌, ◌%◌, ◌<◌, ◌≤◌, pred, min, max, ◌≡◌, cond, List, map, length, get_or, eqb, ltb}
+use Rattle.std.specs.Prelude.{ℕ, suc, ◌+◌, ◌*◌, ◌%◌, ◌<◌, pred, min, max, ◌≡◌, cond, List, map, length, get_or, eqb, ltb, Option, Some, None, IsSome}
 use package.Rattle.octets.specs.Numbers.{put16}
 use package.Rattle.rules.specs.Limits.{max_types}
 use package.Rattle.calls.specs.Entries.{TypeEntry, y_unit, y_prod, y_sum, y_mu, y_var, type_at}
@@ -44,9 +44,10 @@ figure_of heap (y_sum a b) = two_of heap sum_kind a b
 figure_of heap (y_mu a) = recursive_of heap a
 figure_of heap (y_var k) = bound_of k
 
--- the number of entry `i`, if `k` is the entry that has its key
-abbrev pub number_from : List ℕ → ℕ → ℕ → ℕ
-number_from heap i k = cond (ltb k i) (number_at heap k) i
+-- the number of entry `i`, by the lower entry that has its key, if there is one
+abbrev pub number_from : List ℕ → ℕ → Option ℕ → ℕ
+number_from heap i None = i
+number_from heap i (Some k) = number_at heap k
 
 -- without an alias
 unfoldable pub put_figures : List ℕ → ℕ → ℕ → ℕ → ℕ → List ℕ
@@ -67,24 +68,23 @@ slots = 1021
 abbrev pub slot_of : ℕ → ℕ
 slot_of key = key % slots
 
--- Of `n` keys, number `r` is this one, or none is and `r` is `n`.
-pub record Finds (keys : List ℕ) (n key r : ℕ) : Type 0 where
-  pub most : r ≤ n
-  pub there : r < n → get_or keys r 0 ≡ key
-  pub none : r ≡ n → (k : ℕ) → k < n → ¬ (get_or keys k 0 ≡ key)
+-- Of `n` keys, one is this one, or none is.
+pub record Finds (keys : List ℕ) (n key : ℕ) (r : Option ℕ) : Type 0 where
+  pub there : (k : ℕ) → r ≡ Some k → (k < n) × (get_or keys k 0 ≡ key)
+  pub none : r ≡ None → (k : ℕ) → k < n → ¬ (get_or keys k 0 ≡ key)
 
 -- What looking for aliases goes by: all entries have their figures, and each key's slot is taken.
-pub record Traceable (xs types heap keys index : List ℕ) : Type 0 where
+pub record Traceable (xs types heap keys : List ℕ) (index : List (Option ℕ)) : Type 0 where
   pub entries : Readable xs types
   pub figured : Figured (map (type_at xs) types) heap (length types)
   pub keys_held : length keys ≡ max_types
   pub index_held : length index ≡ slots
-  pub taken : (i : ℕ) → i < length types → 0 < get_or index (slot_of (get_or keys i 0)) 0
+  pub taken : (i : ℕ) → i < length types → IsSome (get_or index (slot_of (get_or keys i 0)) None)
 
 -- The first `n` entries have their figures; their keys are kept, and each key's slot is taken.
-pub record Numbered (xs types heap keys index : List ℕ) (n : ℕ) : Type 0 where
+pub record Numbered (xs types heap keys : List ℕ) (index : List (Option ℕ)) (n : ℕ) : Type 0 where
   pub figured : Figured (map (type_at xs) types) heap n
   pub keys_held : length keys ≡ max_types
   pub index_held : length index ≡ slots
   pub key : (i : ℕ) → i < n → get_or keys i 0 ≡ (figure_of heap (get_or (map (type_at xs) types) i y_unit)).key
-  pub taken : (i : ℕ) → i < n → 0 < get_or index (slot_of (get_or keys i 0)) 0
+  pub taken : (i : ℕ) → i < n → IsSome (get_or index (slot_of (get_or keys i 0)) None)

@@ -1,73 +1,51 @@
 // Types compared as trees (section 3), without writing them out.
-ghost use Rattle.std.specs.Prelude.{◌≡◌, length};
+ghost use Rattle.std.specs.Prelude.{◌≡◌};
 ghost use Rattle.rules.specs.Ty.{is_unit, same_ty};
-ghost use Rattle.types.specs.Codes.{tree_in, Sources, Known};
+ghost use Rattle.types.specs.Basis.{KnownBy, tree_by};
 
+use crate::basis::Basis;
 use crate::codes::Code;
-use crate::{codes, parts};
-use program::kinds;
+use crate::shapes::Shape;
 
-// Is the type exactly unit?
-pub fn is_unit(p: &[u8], types: &[u16], ws: &[u8], top: u32, c: Code) -> bool
-    requires sources { Sources p.now types.now ws.now top }
-    requires known { Known (length types.now) top c }
-    ensures { result ≡ is_unit (tree_in p.now types.now ws.now c) }
-{
-    let d = parts::settled(p, types, ws, top, c);
-    parts::kind_of(p, types, ws, top, d) == kinds::UNIT_TYPE
-}
+impl Basis<'_> {
+    // Is the type exactly unit?
+    pub fn is_unit(&self, c: Code) -> bool
+        requires { KnownBy self.now c }
+        ensures { result ≡ is_unit (tree_by self.now c) }
+    {
+        matches!(self.shape_of(c), Shape::Unit)
+    }
 
-// Are the types equal, by their outermost nodes? Entries are told equal or apart in one step, by their numbers (02, F-4), and codes that settle alike
-// are; else the parts are compared. Nothing is counted. Parts are read one by one, each only where it is asked: a struct of all of them would be
-// copied.
-fn same_nodes(p: &[u8], types: &[u16], ws: &[u8], top: u32, c: Code, d: Code) -> bool
-    requires sources { Sources p.now types.now ws.now top }
-    requires known { Known (length types.now) top c × Known (length types.now) top d }
-    ensures { result ≡ same_ty (tree_in p.now types.now ws.now c) (tree_in p.now types.now ws.now d) }
-{
-    let v = parts::settled(p, types, ws, top, c);
-    let w = parts::settled(p, types, ws, top, d);
-    if codes::identical(v, w) {
-        return true;
+    // Are the types equal, by their outermost nodes? Entries are told equal or apart in one step, by their numbers (02, F-4), and codes that settle
+    // alike are; else the parts are compared. Nothing is counted.
+    fn same_nodes(&self, c: Code, d: Code) -> bool
+        requires { KnownBy self.now c × KnownBy self.now d }
+        ensures { result ≡ same_ty (tree_by self.now c) (tree_by self.now d) }
+    {
+        let v = self.settled(c);
+        let w = self.settled(d);
+        if v == w {
+            return true;
+        }
+        if let (Code::Entry(_), Code::Entry(_)) = (v, w) {
+            return false;
+        }
+        match (self.plain(v), self.plain(w)) {
+            (Shape::Unit, Shape::Unit) => true,
+            (Shape::Product(a, e), Shape::Product(b, f)) => self.same_nodes(a, b)
+                && self.same_nodes(e, f),
+            (Shape::Sum(a, e), Shape::Sum(b, f)) => self.same_nodes(a, b) && self.same_nodes(e, f),
+            (Shape::Recursive(a), Shape::Recursive(b)) => self.same_nodes(a, b),
+            (Shape::Variable(n), Shape::Variable(m)) => n == m,
+            _ => false,
+        }
     }
-    if codes::are_entries(v, w) {
-        return false;
-    }
-    let kind = parts::kind_of(p, types, ws, top, v);
-    let kind2 = parts::kind_of(p, types, ws, top, w);
-    if kind != kind2 {
-        return false;
-    }
-    if kind == kinds::UNIT_TYPE {
-        return true;
-    }
-    if kind == kinds::TYPE_VARIABLE {
-        let n = parts::variable_of(p, types, ws, top, v);
-        let m = parts::variable_of(p, types, ws, top, w);
-        return n == m;
-    }
-    let a = parts::first_of(p, types, ws, top, v, kind);
-    let b = parts::first_of(p, types, ws, top, w, kind);
-    let first = same_nodes(p, types, ws, top, a, b);
-    if kind == kinds::RECURSIVE {
-        return first;
-    }
-    if first {
-        let e = parts::second_of(p, types, ws, top, v, kind);
-        let f = parts::second_of(p, types, ws, top, w, kind);
-        return same_nodes(p, types, ws, top, e, f);
-    }
-    false
-}
 
-// Are the types equal? Where a program goes on with the type that it has, the codes are the same, and nothing is read.
-pub fn same(p: &[u8], types: &[u16], ws: &[u8], top: u32, c: Code, d: Code) -> bool
-    requires sources { Sources p.now types.now ws.now top }
-    requires known { Known (length types.now) top c × Known (length types.now) top d }
-    ensures { result ≡ same_ty (tree_in p.now types.now ws.now c) (tree_in p.now types.now ws.now d) }
-{
-    if codes::identical(c, d) {
-        return true;
+    // Are the types equal? Where a program goes on with the type that it has, the codes are the same, and nothing is read.
+    pub fn same(&self, c: Code, d: Code) -> bool
+        requires { KnownBy self.now c × KnownBy self.now d }
+        ensures { result ≡ same_ty (tree_by self.now c) (tree_by self.now d) }
+    {
+        c == d || self.same_nodes(c, d)
     }
-    same_nodes(p, types, ws, top, c, d)
 }

@@ -1,20 +1,26 @@
 // Hints at the codes of products, in lent bytes behind the figures (02, F-4): the codes of a product's two parts fall on a slot, and the slot has a code
 // that a product of such parts may have. A hint is a guess: it is held to the parts before it is used, so that any bytes may stand there, what an earlier
 // function left or what two products on one slot overwrote. A product that is not found costs nothing but time.
+// Kept: hints are laid out by hand, since the caller lends bytes and nothing is allocated.
 ghost use Rattle.std.specs.Prelude.{◌≡◌, true, ◌+◌, ◌*◌, ◌≤◌, ◌<◌, length};
 ghost use Rattle.rules.specs.Ty.{prod};
 ghost use Rattle.types.specs.Layout.{hint_bytes, hints_from, hint_slots, typing_bytes};
-ghost use Rattle.types.specs.Codes.{tree_in, Sources, Known};
+ghost use Rattle.types.specs.Codes.{Sources};
+ghost use Rattle.types.specs.Basis.{KnownBy, tree_by};
 ghost use Rattle.types.specs.Growth.{Noted, Hinted};
 ghost use Rattle.calls.specs.Entries.{type_at};
 ghost use Rattle.calls.specs.Named.{types_of_type, below};
 ghost use Rattle.program.specs.Parts.{TypeField};
 ghost use Rattle.rules.specs.Limits.{max_types};
 
+use crate::basis::Basis;
 use crate::codes::Code;
-use crate::figures::FIGURES_END;
-use crate::{codes, figures, nodes, parts};
-use program::{kinds, views};
+use crate::figures::{FIGURES_END, Figures};
+use crate::nodes;
+use crate::nodes::Numbers;
+use crate::shapes::Shape;
+use program::kinds::TypeKind;
+use program::views;
 
 const HINT_BYTES: usize = 6;
 
@@ -31,9 +37,10 @@ const RIGHT: usize = 263;
 fn mixed(c: Code) -> usize
     ensures { result < 65536 * 1024 }
 {
-    FORM * octets::wide_index(c.form)
-        + octets::wide_index(c.at)
-        + STANDS * octets::wide_index(c.stands)
+    let numbers = Numbers::from(c);
+    FORM * usize::from(numbers.form)
+        + usize::from(numbers.at)
+        + STANDS * usize::from(numbers.stands)
 }
 
 // Where the hint at the product of two codes stands.
@@ -44,59 +51,41 @@ fn place(left: Code, right: Code) -> usize
     FIGURES_END + HINT_BYTES * slot
 }
 
-// The code names a type entry or a product node.
-fn is_known(n: usize, top: u32, c: Code) -> bool
-    ensures { result ≡ true → Known n top c }
-{
-    let form = c.form;
-    if form == codes::PRODUCT {
-        return octets::wide32(c.at) < top;
-    }
-    if form == codes::ENTRY {
-        return octets::wide_index(c.at) < n;
-    }
-    if form == codes::UNDER {
-        if octets::wide_index(c.at) < n {
-            return octets::wide_index(c.stands) < n;
+impl Basis<'_> {
+    // The code names a type entry or a product node.
+    fn is_known(&self, c: Code) -> bool
+        ensures { result ≡ true → KnownBy self.now c }
+    {
+        match c {
+            Code::Unit => false,
+            Code::Entry(i) => usize::from(i) < self.types.len(),
+            Code::Under(i, j) => usize::from(i) < self.types.len()
+                && usize::from(j) < self.types.len(),
+            Code::Product(n) => u32::from(n) < self.top,
         }
     }
-    false
-}
 
-// Is the type the product of two types whose codes are settled, by the codes of its parts?
-fn is_pair(p: &[u8], types: &[u16], ws: &[u8], top: u32, c: Code, left: Code, right: Code) -> bool
-    requires sources { Sources p.now types.now ws.now top }
-    requires known { Known (length types.now) top c }
-    ensures { result ≡ true → tree_in p.now types.now ws.now c
-        ≡ prod (tree_in p.now types.now ws.now left) (tree_in p.now types.now ws.now right) }
-{
-    let d = parts::settled(p, types, ws, top, c);
-    let kind = parts::kind_of(p, types, ws, top, d);
-    if kind != kinds::PRODUCT {
-        return false;
+    // Is the type the product of two types whose codes are settled, by the codes of its parts?
+    fn is_pair(&self, c: Code, left: Code, right: Code) -> bool
+        requires { KnownBy self.now c }
+        ensures { result ≡ true → tree_by self.now c ≡ prod (tree_by self.now left) (tree_by self.now right) }
+    {
+        let Shape::Product(a, b) = self.shape_of(c) else {
+            return false;
+        };
+        self.settled(a) == left && self.settled(b) == right
     }
-    let a = parts::first_of(p, types, ws, top, d, kind);
-    let l = parts::settled(p, types, ws, top, a);
-    if codes::identical(l, left) {
-        let b = parts::second_of(p, types, ws, top, d, kind);
-        let r = parts::settled(p, types, ws, top, b);
-        return codes::identical(r, right);
-    }
-    false
-}
 
-// The code of the product of two types whose codes are settled, if the hint at it is right; else that of unit.
-pub fn hinted(p: &[u8], types: &[u16], ws: &[u8], top: u32, left: Code, right: Code) -> Code
-    requires { Sources p.now types.now ws.now top }
-    ensures { Hinted p.now types.now ws.now top left right result }
-{
-    let c = nodes::code_at(ws, place(left, right));
-    if is_known(types.len(), top, c) {
-        if is_pair(p, types, ws, top, c, left, right) {
-            return c;
+    // The code of the product of two types whose codes are settled, if the hint at it is right.
+    pub fn hinted(&self, left: Code, right: Code) -> Option<Code>
+        ensures { Hinted self.now.program.now self.now.types.now self.now.ws.now self.now.top left right result }
+    {
+        let c = nodes::code_at(self.ws, place(left, right));
+        if self.is_known(c) && self.is_pair(c, left, right) {
+            return Some(c);
         }
+        None
     }
-    codes::unit()
 }
 
 // The code of the product of two types whose codes are settled is kept as a hint.
@@ -107,14 +96,19 @@ pub fn put(ws: &mut [u8], left: Code, right: Code, c: Code)
     nodes::put_code(ws, place(left, right), c);
 }
 
+// Kept: the parts of a Basis come one by one, since the bytes are written here.
 // The same, unless the product is found already: an entry's hint stays where a part of an unfolding is equal to that entry.
-pub fn offer(p: &[u8], types: &[u16], ws: &mut [u8], left: Code, right: Code, c: Code)
-    requires { Sources p.now types.now ws.old 0 }
+pub fn offer(program: &[u8], types: &[u16], ws: &mut [u8], left: Code, right: Code, c: Code)
+    requires { Sources program.now types.now ws.old 0 }
     ensures { Noted ws.old ws.new }
 {
-    let known = hinted(p, types, ws, 0, left, right);
-    let form = known.form;
-    if form == codes::UNIT {
+    let basis = Basis {
+        program,
+        types,
+        ws,
+        top: 0,
+    };
+    if basis.hinted(left, right).is_none() {
         put(ws, left, right, c);
     }
 }
@@ -125,10 +119,10 @@ pub fn put_entry(p: &[u8], at: usize, ws: &mut [u8], own: u16)
     requires at_value { below max_types (types_of_type (type_at p.now at)) ≡ true }
     ensures { Noted ws.old ws.new }
 {
-    let kind = views::kind(p, at);
-    if kind == kinds::PRODUCT {
-        let left = codes::entry(figures::number_of(ws, views::first(p, at)));
-        let right = codes::entry(figures::number_of(ws, views::second(p, at)));
-        put(ws, left, right, codes::entry(own));
+    if views::type_kind(p, at) == TypeKind::Product {
+        let kept = Figures { ws };
+        let left = Code::Entry(kept.number_of(views::first(p, at)));
+        let right = Code::Entry(kept.number_of(views::second(p, at)));
+        put(ws, left, right, Code::Entry(own));
     }
 }

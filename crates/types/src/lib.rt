@@ -2,10 +2,11 @@
 #![tactic(auto)]
 
 pub mod codes; // codes.rt: what a code is
+pub mod basis; // basis.rt: what codes stand on
 pub mod nodes; // nodes.rt: product nodes in lent bytes
 pub mod figures; // figures.rt: what is kept of each type entry, behind them
-pub mod parts; // parts.rt: the outermost node of a type, one part at a time
-pub mod shapes; // shapes.rt: the same, whole
+pub mod parts; // parts.rt: the outermost node of a type, read off the entry or product that its code names
+pub mod shapes; // shapes.rt: the outermost node of a type
 pub mod unfolding; // unfolding.rt: what a recursive entry unfolds to
 pub mod compare; // compare.rt: types compared
 pub mod counting; // counting.rt: the nodes of a type

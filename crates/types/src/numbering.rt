@@ -1,24 +1,35 @@
 // The figures of all type entries, made once, bottom up, before typing (02, F-4). An entry's key is its kind and the numbers of its parts, or
 // its variable: entries have one key exactly if they are equal as trees, so an entry gets the number of a lower one that has its key, or else its
 // own. Where a key is looked for first is told by its slot, so that keys are not compared one by one, unless two fall on one slot.
-ghost use Rattle.std.specs.Prelude.{◌≡◌, true, ℕ, ◌+◌, ◌≤◌, ◌<◌, max, length, get_or};
+ghost use Rattle.std.specs.Prelude.{◌≡◌, true, ℕ, ◌+◌, ◌≤◌, ◌<◌, length, get_or, slice_set, IfSome, IsSome};
 ghost use Rattle.rules.specs.Limits.{max_types};
 ghost use Rattle.calls.specs.Entries.{type_at};
 ghost use Rattle.calls.specs.Named.{types_of_type, below};
+ghost use Rattle.program.specs.KindNumbers.{type_kind_number};
 ghost use Rattle.program.specs.Parts.{TypeField};
 ghost use Rattle.types.specs.Layout.{typing_bytes};
 ghost use Rattle.types.specs.Codes.{Readable};
 ghost use Rattle.types.specs.Numbering.{slots, slot_of, packed, share, two_of, recursive_of, bound_of, figure_of, number_from, Finds, Numbered};
 
+use crate::figures::Figures;
 use crate::{counting, figures, hints};
-use program::{kinds, views};
+use program::kinds::TypeKind;
+use program::views;
+use rules::MAX_TYPES;
 
 // A prime, some four times as many as there can be entries.
 const SLOTS: u32 = 1021;
 
-pub const SLOT_COUNT: usize = SLOTS as usize;
+const SLOT_COUNT: usize = SLOTS as usize;
 
+// The keys of the entries that were entered, in order; and by the slot that a key falls on, the newest entry whose key does.
 #[derive(Drop)]
+pub struct Keys {
+    pub keys: [u32; MAX_TYPES],
+    pub index: [Option<u16>; SLOT_COUNT],
+}
+
+#[derive(Clone, Copy)]
 pub struct Figure {
     pub key: u32,
     pub free: u16,
@@ -31,72 +42,20 @@ fn slot(key: u32) -> usize
     (key % SLOTS) as usize
 }
 
-pub fn packed(kind: u8, a: u16, b: u16) -> u32
-    requires { kind ≤ 4 }
-    ensures { result ≡ packed kind a b }
+// A key: a kind and two numbers below 256, in one.
+// Kept: one number, since a slot is told by a number: a struct would be turned into this one at each look-up.
+pub fn packed(kind: TypeKind, a: u16, b: u16) -> u32
+    ensures { result ≡ packed (type_kind_number kind) a b }
 {
-    65536 * octets::wide32(octets::wide16(kind)) + 256 * octets::wide32(a) + octets::wide32(b)
-}
-
-// How often the outermost free variable of a whole with `free` free ones stands in its part.
-fn share(ws: &[u8], free: u16, a: u16) -> u32
-    requires { (typing_bytes ≤ length ws.now) × (a < max_types) }
-    ensures { (result ≡ share ws.now free a) × (result < 65536) }
-{
-    if figures::free_of(ws, a) == free {
-        return octets::wide32(figures::outer_of(ws, a));
-    }
-    0
-}
-
-fn greater(a: u16, b: u16) -> u16
-    ensures { result ≡ max a b }
-{
-    if a < b {
-        return b;
-    }
-    a
-}
-
-// Of a product or a sum.
-fn two(ws: &[u8], kind: u8, a: u16, b: u16) -> Figure
-    requires { (typing_bytes ≤ length ws.now) × (kind ≤ 4) × (a < max_types) × (b < max_types) }
-    ensures { result ≡ two_of ws.now kind a b }
-{
-    let key = packed(kind, figures::number_of(ws, a), figures::number_of(ws, b));
-    let free = greater(figures::free_of(ws, a), figures::free_of(ws, b));
-    let outer = counting::capped(share(ws, free, a) + share(ws, free, b));
-    Figure { key, free, outer }
-}
-
-// Of a recursive type. Its variable is free in the part alone.
-fn recursive(ws: &[u8], a: u16) -> Figure
-    requires { (typing_bytes ≤ length ws.now) × (a < max_types) }
-    ensures { result ≡ recursive_of ws.now a }
-{
-    let key = packed(kinds::RECURSIVE, figures::number_of(ws, a), 0);
-    let free = figures::free_of(ws, a);
-    if free < 2 {
-        return Figure {
-            key,
-            free: 0,
-            outer: 0,
-        };
-    }
-    let outer = figures::outer_of(ws, a);
-    Figure {
-        key,
-        free: free - 1,
-        outer,
-    }
+    65536 * (kind as u32) + 256 * u32::from(a) + u32::from(b)
 }
 
 // Of a variable, which is free itself.
 fn bound(k: u8) -> Figure
     ensures { result ≡ bound_of k }
 {
-    let n = octets::wide16(k);
-    let key = packed(kinds::TYPE_VARIABLE, n, 0);
+    let n = u16::from(k);
+    let key = packed(TypeKind::Variable, n, 0);
     Figure {
         key,
         free: n + 1,
@@ -104,103 +63,137 @@ fn bound(k: u8) -> Figure
     }
 }
 
-// Of the type at `at`, from those of the types that it names.
-fn figures_of(p: &[u8], at: usize, ws: &[u8]) -> Figure
-    requires type_field { TypeField p.now at × (typing_bytes ≤ length ws.now) }
-    requires at_value { below max_types (types_of_type (type_at p.now at)) ≡ true }
-    ensures { result ≡ figure_of ws.now (type_at p.now at) }
-{
-    let kind = views::kind(p, at);
-    if kind == kinds::UNIT_TYPE {
-        return Figure {
-            key: 0,
-            free: 0,
-            outer: 0,
-        };
-    }
-    if kind < kinds::RECURSIVE {
-        return two(ws, kind, views::first(p, at), views::second(p, at));
-    }
-    if kind == kinds::RECURSIVE {
-        return recursive(ws, views::first(p, at));
-    }
-    bound(views::variable(p, at))
-}
-
-// The first of `n` keys that is this one; `n` if none is.
-fn scan(keys: &[u32], n: usize, key: u32) -> usize
-    requires { n ≤ length keys.now }
-    ensures { Finds keys.now n key result }
-{
-    let mut k = 0;
-    while k < n {
-        if keys[k] == key {
-            return k;
+impl Figures<'_> {
+    // How often the outermost free variable of a whole with `free` free ones stands in its part.
+    fn share(&self, free: u16, a: u16) -> u32
+        requires { a < max_types }
+        ensures { (result ≡ share self.now.ws.now free a) × (result < 65536) }
+    {
+        if self.free_of(a) == free {
+            return u32::from(self.outer_of(a));
         }
-        k += 1;
+        0
     }
-    n
-}
 
-// One of `n` keys that is this one; `n` if none is. `index` has one more than the newest entry whose key falls on a slot, 0 where none does.
-pub fn find(keys: &[u32], index: &[u16], n: usize, key: u32) -> usize
-    requires n_in_bounds { (n ≤ length keys.now) × (slots ≤ length index.now) }
-    requires by_index { (k : ℕ) → k < n → 0 < get_or index.now (slot_of (get_or keys.now k 0)) 0 }
-    ensures { Finds keys.now n key result }
-{
-    let s = slot(key);
-    let newest = octets::wide_index(index[s]);
-    if newest == 0 {
-        return n;
+    // Of a product or a sum.
+    fn two(&self, kind: TypeKind, a: u16, b: u16) -> Figure
+        requires { (a < max_types) × (b < max_types) }
+        ensures { result ≡ two_of self.now.ws.now (type_kind_number kind) a b }
+    {
+        let key = packed(kind, self.number_of(a), self.number_of(b));
+        let free = self.free_of(a).max(self.free_of(b));
+        let outer = counting::capped(self.share(free, a) + self.share(free, b));
+        Figure { key, free, outer }
     }
-    let k = newest - 1;
-    if k < n {
-        if keys[k] == key {
-            return k;
+
+    // Of a recursive type. Its variable is free in the part alone.
+    fn recursive(&self, a: u16) -> Figure
+        requires { a < max_types }
+        ensures { result ≡ recursive_of self.now.ws.now a }
+    {
+        let key = packed(TypeKind::Recursive, self.number_of(a), 0);
+        let free = self.free_of(a);
+        if free < 2 {
+            return Figure {
+                key,
+                free: 0,
+                outer: 0,
+            };
+        }
+        let outer = self.outer_of(a);
+        Figure {
+            key,
+            free: free - 1,
+            outer,
         }
     }
-    scan(keys, n, key)
+
+    // Of the type at `at`, from those of the types that it names.
+    fn figure_of(&self, p: &[u8], at: usize) -> Figure
+        requires type_field { TypeField p.now at }
+        requires at_value { below max_types (types_of_type (type_at p.now at)) ≡ true }
+        ensures { result ≡ figure_of self.now.ws.now (type_at p.now at) }
+    {
+        match views::type_kind(p, at) {
+            TypeKind::Unit => Figure {
+                key: 0,
+                free: 0,
+                outer: 0,
+            },
+            TypeKind::Product => self.two(
+                TypeKind::Product,
+                views::first(p, at),
+                views::second(p, at),
+            ),
+            TypeKind::Sum => self.two(TypeKind::Sum, views::first(p, at), views::second(p, at)),
+            TypeKind::Recursive => self.recursive(views::first(p, at)),
+            TypeKind::Variable => bound(views::variable(p, at)),
+        }
+    }
+
+    // The number of entry `i`, by the lower entry that has its key too, if there is one.
+    fn number(&self, i: u16, same: Option<usize>) -> u16
+        requires { IfSome same (λ k. k < max_types) }
+        ensures { result ≡ number_from self.now.ws.now i same }
+    {
+        match same {
+            Some(k) => self.number_of(k as u16),
+            None => i,
+        }
+    }
 }
 
-// The number of entry `i`, whose key entry `k` has too, if it is lower.
-fn number(ws: &[u8], i: u16, k: usize) -> u16
-    requires { (typing_bytes ≤ length ws.now) × (i < max_types) × (k ≤ i) }
-    ensures { result ≡ number_from ws.now i k }
-{
-    let lower = k as u16;
-    if lower < i {
-        return figures::number_of(ws, lower);
+impl Keys {
+    // The entry of one of the first `n` keys that is this one.
+    pub fn find(&self, n: usize, key: u32) -> Option<usize>
+        requires n_in_bounds { n ≤ max_types }
+        requires by_index { (k : ℕ) → k < n → IsSome (get_or self.now.index (slot_of (get_or self.now.keys k 0)) None) }
+        ensures { Finds self.now.keys n key result }
+    {
+        let newest = usize::from(self.index[slot(key)]?);
+        if newest < n && self.keys[newest] == key {
+            return Some(newest);
+        }
+        self.keys[..n].iter().position(|k| *k == key)
     }
-    i
+
+    // The key of entry `i`.
+    fn put(&mut self, i: u16, key: u32)
+        requires { i < max_types }
+        ensures keys { self.new.keys ≡ slice_set self.old.keys i key }
+        ensures index { self.new.index ≡ slice_set self.old.index (slot_of key) (Some i) }
+    {
+        self.keys[usize::from(i)] = key;
+        self.index[slot(key)] = Some(i);
+    }
 }
 
 // Entry `i` gets its figures.
-fn enter(p: &[u8], types: &[u16], ws: &mut [u8], keys: &mut [u32], index: &mut [u16], i: usize)
+fn enter(p: &[u8], types: &[u16], ws: &mut [u8], keys: &mut Keys, i: u16)
     requires readable { Readable p.now types.now × (i < length types.now) }
-    requires numbered { Numbered p.now types.now ws.old keys.old index.old i }
-    ensures { Numbered p.now types.now ws.new keys.new index.new (i + 1) }
+    requires numbered { Numbered p.now types.now ws.old keys.old.keys keys.old.index i }
+    ensures { Numbered p.now types.now ws.new keys.new.keys keys.new.index (i + 1) }
 {
-    let at = octets::wide_index(types[i]);
-    let f = figures_of(p, at, ws);
-    let n = i as u16;
-    let k = find(keys, index, i, f.key);
-    let own = number(ws, n, k);
-    figures::put(ws, n, own, f.free, f.outer);
+    let at = usize::from(types[usize::from(i)]);
+    let kept = Figures { ws };
+    let f = kept.figure_of(p, at);
+    let own = kept.number(i, keys.find(usize::from(i), f.key));
+    figures::put(ws, i, own, f.free, f.outer);
     hints::put_entry(p, at, ws, own);
-    keys[i] = f.key;
-    let s = slot(f.key);
-    index[s] = n + 1;
+    keys.put(i, f.key);
 }
 
-// The figures of the type entries, in keys and slots that are lent.
-pub fn number_types(p: &[u8], types: &[u16], ws: &mut [u8], keys: &mut [u32], index: &mut [u16])
+// The figures of the type entries; answers their keys.
+pub fn number_types(p: &[u8], types: &[u16], ws: &mut [u8]) -> Keys
     requires readable { Readable p.now types.now × (typing_bytes ≤ length ws.old) }
-    requires keys_len { (length keys.old ≡ max_types) × (length index.old ≡ slots) }
-    ensures { Numbered p.now types.now ws.new keys.new index.new (length types.now) }
+    ensures { Numbered p.now types.now ws.new result.keys result.index (length types.now) }
 {
-    let mut i = 0;
-    while i < types.len() {
-        enter(p, types, ws, keys, index, i);
-        i += 1;
+    let mut keys = Keys {
+        keys: [0; MAX_TYPES],
+        index: [None; SLOT_COUNT],
+    };
+    for i in 0..types.len() {
+        enter(p, types, ws, &mut keys, i as u16);
     }
+    keys
 }

@@ -1,134 +1,116 @@
-// The outermost node of a type, one part at a time: where only a kind is asked, no part is read. A code is settled first, so that its
-// node is read off the entry or product that it names (specs/Shapes, plain_shape).
-ghost use Rattle.std.specs.Prelude.{◌≡◌, ◌≤◌, ◌<◌, length};
+// The outermost node of a type, read off the entry or product that its code names, once the code is settled (specs/Shapes, plain_shape).
+ghost use Rattle.std.specs.Prelude.{◌≡◌, ℕ, ◌≤◌, ◌<◌, length, get_or};
 ghost use Rattle.rules.specs.Limits.{max_types};
-ghost use Rattle.program.specs.Kinds.{unit_type_kind, recursive_kind, type_variable_kind};
-ghost use Rattle.types.specs.Layout.{typing_bytes};
-ghost use Rattle.types.specs.Codes.{under_form, Sources, Known};
-ghost use Rattle.types.specs.Shapes.{part, plain_shape, Settled};
+ghost use Rattle.calls.specs.Entries.{type_at};
+ghost use Rattle.types.specs.Codes.{under_code};
+ghost use Rattle.types.specs.Shapes.{part, entry_shape};
+ghost use Rattle.types.specs.Basis.{KnownBy, plain_by, SettledBy};
 
+use crate::basis::Basis;
 use crate::codes::Code;
-use crate::{codes, figures, nodes};
-use program::kinds;
+use crate::figures::Figures;
+use crate::nodes;
+use crate::shapes::Shape;
+use program::kinds::TypeKind;
+use program::views;
 
-// The code of a type in which a variable stands for an entry. Where the entry is closed, has an alias for what stands, or is the variable, it is an
-// entry's.
-fn settled_under(p: &[u8], types: &[u16], ws: &[u8], top: u32, c: Code) -> Code
-    requires sources { Sources p.now types.now ws.now top }
-    requires known { Known (length types.now) top c × (c.form ≡ under_form) }
-    ensures { Settled p.now types.now ws.now top c result }
-{
-    let i = figures::number_of(ws, c.at);
-    if figures::free_of(ws, i) == 0 {
-        return codes::entry(i);
-    }
-    let j = figures::number_of(ws, c.stands);
-    if octets::wide32(figures::stand_of(ws, i)) == octets::wide32(j) + 1 {
-        let alias = figures::alias_of(ws, i);
-        return codes::entry(figures::number_of(ws, alias));
-    }
-    let at = octets::wide_index(types[octets::wide_index(i)]);
-    let kind = program::views::kind(p, at);
-    if kind == kinds::TYPE_VARIABLE {
-        return codes::entry(j);
-    }
-    codes::under(i, j)
-}
-
-// A code of the same type, by the numbers of its entries, whose entry is not that variable.
-pub fn settled(p: &[u8], types: &[u16], ws: &[u8], top: u32, c: Code) -> Code
-    requires sources { Sources p.now types.now ws.now top }
-    requires known { Known (length types.now) top c }
-    ensures { Settled p.now types.now ws.now top c result }
-{
-    let form = c.form;
-    if form == codes::ENTRY {
-        return codes::entry(figures::number_of(ws, c.at));
-    }
-    if form == codes::UNDER {
-        return settled_under(p, types, ws, top, c);
-    }
-    c
-}
-
-pub fn kind_of(p: &[u8], types: &[u16], ws: &[u8], top: u32, c: Code) -> u8
-    requires sources { Sources p.now types.now ws.now top }
-    requires known { Known (length types.now) top c }
-    ensures { result ≡ (plain_shape p.now types.now ws.now c).kind }
-{
-    let form = c.form;
-    if form == codes::UNIT {
-        return kinds::UNIT_TYPE;
-    }
-    if form == codes::PRODUCT {
-        return kinds::PRODUCT;
-    }
-    let i = octets::wide_index(c.at);
-    let at = octets::wide_index(types[i]);
-    program::views::kind(p, at)
-}
-
-// The number of a bound variable.
-pub fn variable_of(p: &[u8], types: &[u16], ws: &[u8], top: u32, c: Code) -> u8
-    requires sources { Sources p.now types.now ws.now top }
-    requires known { Known (length types.now) top c }
-    requires c_value { (plain_shape p.now types.now ws.now c).kind ≡ type_variable_kind }
-    ensures { result ≡ (plain_shape p.now types.now ws.now c).variable }
-{
-    let i = octets::wide_index(c.at);
-    let at = octets::wide_index(types[i]);
-    program::views::variable(p, at)
-}
-
-// The part `i` of the entry that the code is of, which is `up` higher under a recursive entry. Where the variable that stands for an entry does
-// not occur in it, it is an entry as it stands: the outermost variable occurs exactly where as many are free.
-fn part(ws: &[u8], c: Code, i: u16, up: u32) -> Code
-    requires { (typing_bytes ≤ length ws.now) × (c.form ≡ under_form → c.at < max_types) × (i < max_types) × (up ≤ 1) }
-    ensures { result ≡ part ws.now c i up }
-{
-    let form = c.form;
-    if form == codes::UNDER {
-        let mine = octets::wide32(figures::free_of(ws, i));
-        let whole = octets::wide32(figures::free_of(ws, c.at));
-        if mine == whole + up {
-            return codes::under(i, c.stands);
+impl Figures<'_> {
+    // The part `i` of the entry that the code is of, which is `up` higher under a recursive entry. Where the variable that stands for an entry does
+    // not occur in it, it is an entry as it stands: the outermost variable occurs exactly where as many are free.
+    #[inline(always)]
+    fn part(&self, c: Code, i: u16, up: u32) -> Code
+        requires room { (i < max_types) × (up ≤ 1) }
+        requires whole { (i j : ℕ) → c ≡ under_code i j → i < max_types }
+        ensures { result ≡ part self.now.ws.now c i up }
+    {
+        if let Code::Under(whole, stands) = c {
+            let mine = u32::from(self.free_of(i));
+            let outer = u32::from(self.free_of(whole));
+            if mine == outer + up {
+                return Code::Under(i, stands);
+            }
         }
-        return codes::entry(i);
+        Code::Entry(i)
     }
-    codes::entry(i)
 }
 
-// The first part, of a product, a sum or a recursive type; the second, of a product or a sum.
-pub fn first_of(p: &[u8], types: &[u16], ws: &[u8], top: u32, c: Code, kind: u8) -> Code
-    requires sources { Sources p.now types.now ws.now top }
-    requires known { Known (length types.now) top c }
-    requires kind_value { (kind ≡ (plain_shape p.now types.now ws.now c).kind) × (¬ (kind ≡ unit_type_kind)) × (kind < type_variable_kind) }
-    ensures { result ≡ (plain_shape p.now types.now ws.now c).first }
-{
-    let form = c.form;
-    if form == codes::PRODUCT {
-        return nodes::left_of(ws, c.at);
+impl Basis<'_> {
+    // The code of the type of entry `at` in which its outermost free variable stands for entry `stands`. Where the entry is closed, has an alias for
+    // what stands, or is the variable, it is an entry's.
+    fn settled_under(&self, at: u16, stands: u16) -> Code
+        requires { (at < length self.now.types.now) × (stands < length self.now.types.now) }
+        ensures { SettledBy self.now (under_code at stands) result }
+    {
+        let kept = Figures { ws: self.ws };
+        let i = kept.number_of(at);
+        if kept.free_of(i) == 0 {
+            return Code::Entry(i);
+        }
+        let j = kept.number_of(stands);
+        if let Some(alias) = kept.alias_of(i, j) {
+            return Code::Entry(kept.number_of(alias));
+        }
+        let at = usize::from(self.types[usize::from(i)]);
+        match views::type_kind(self.program, at) {
+            TypeKind::Variable => Code::Entry(j),
+            _ => Code::Under(i, j),
+        }
     }
-    let i = octets::wide_index(c.at);
-    let at = octets::wide_index(types[i]);
-    let n = program::views::first(p, at);
-    if kind == kinds::RECURSIVE {
-        return part(ws, c, n, 1);
-    }
-    part(ws, c, n, 0)
-}
 
-pub fn second_of(p: &[u8], types: &[u16], ws: &[u8], top: u32, c: Code, kind: u8) -> Code
-    requires sources { Sources p.now types.now ws.now top }
-    requires known { Known (length types.now) top c }
-    requires kind_value { (kind ≡ (plain_shape p.now types.now ws.now c).kind) × (¬ (kind ≡ unit_type_kind)) × (kind < recursive_kind) }
-    ensures { result ≡ (plain_shape p.now types.now ws.now c).second }
-{
-    let form = c.form;
-    if form == codes::PRODUCT {
-        return nodes::right_of(ws, c.at);
+    // A code of the same type, by the numbers of its entries, whose entry is not that variable.
+    pub fn settled(&self, c: Code) -> Code
+        requires { KnownBy self.now c }
+        ensures { SettledBy self.now c result }
+    {
+        match c {
+            Code::Entry(i) => Code::Entry(Figures { ws: self.ws }.number_of(i)),
+            Code::Under(i, j) => self.settled_under(i, j),
+            Code::Unit | Code::Product(_) => c,
+        }
     }
-    let i = octets::wide_index(c.at);
-    let at = octets::wide_index(types[i]);
-    part(ws, c, program::views::second(p, at), 0)
+
+    // The node of the entry `i`, which the code is of.
+    #[inline(always)]
+    fn entry_shape(&self, c: Code, i: u16) -> Shape
+        requires there { i < length self.now.types.now }
+        requires whole { (i j : ℕ) → c ≡ under_code i j → i < max_types }
+        ensures { result ≡ entry_shape self.now.ws.now (type_at self.now.program.now (get_or self.now.types.now i 0)) c }
+    {
+        let kept = Figures { ws: self.ws };
+        let at = usize::from(self.types[usize::from(i)]);
+        match views::type_kind(self.program, at) {
+            TypeKind::Unit => Shape::Unit,
+            TypeKind::Product => {
+                let first = kept.part(c, views::first(self.program, at), 0);
+                let second = kept.part(c, views::second(self.program, at), 0);
+                Shape::Product(first, second)
+            }
+            TypeKind::Sum => {
+                let first = kept.part(c, views::first(self.program, at), 0);
+                let second = kept.part(c, views::second(self.program, at), 0);
+                Shape::Sum(first, second)
+            }
+            TypeKind::Recursive => {
+                let body = kept.part(c, views::first(self.program, at), 1);
+                Shape::Recursive(body)
+            }
+            TypeKind::Variable => Shape::Variable(views::variable(self.program, at)),
+        }
+    }
+
+    // The node of a type whose code is settled. It is put in place where it is read: handed back, it takes a check's time up by half.
+    #[inline(always)]
+    pub fn plain(&self, c: Code) -> Shape
+        requires { KnownBy self.now c }
+        ensures { result ≡ plain_by self.now c }
+    {
+        match c {
+            Code::Unit => Shape::Unit,
+            Code::Entry(i) | Code::Under(i, _) => self.entry_shape(c, i),
+            Code::Product(n) => Shape::Product(
+                nodes::left_of(self.ws, n),
+                nodes::right_of(self.ws, n),
+            ),
+        }
+    }
 }

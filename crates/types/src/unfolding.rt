@@ -5,28 +5,35 @@ ghost use Rattle.types.specs.Layout.{typing_bytes};
 ghost use Rattle.types.specs.Codes.{Readable};
 ghost use Rattle.types.specs.Unfolding.{body_of};
 
+use crate::basis::Basis;
 use crate::codes::Code;
-use crate::{codes, figures};
-use program::kinds;
+use crate::figures::Figures;
+use program::kinds::TypeKind;
+use program::views;
 
 // The unfolded type, if the entry is recursive. Its code is by numbers, so that unfoldings of equal entries have the same.
-#[derive(Drop)]
-pub enum Body {
-    Of(Code),
-    Other,
+pub fn unfolded(program: &[u8], types: &[u16], ws: &[u8], i: u16) -> Option<Code>
+    requires readable { Readable program.now types.now × (typing_bytes ≤ length ws.now) }
+    requires i_in_bounds { i < length types.now }
+    ensures { result ≡ body_of ws.now (type_at program.now (get_or types.now i 0)) i }
+{
+    let at = usize::from(types[usize::from(i)]);
+    match views::type_kind(program, at) {
+        TypeKind::Recursive => {
+            let kept = Figures { ws };
+            let body = kept.number_of(views::first(program, at));
+            Some(Code::Under(body, kept.number_of(i)))
+        }
+        _ => None,
+    }
 }
 
-pub fn unfolded(p: &[u8], types: &[u16], ws: &[u8], i: u16) -> Body
-    requires readable { Readable p.now types.now × (typing_bytes ≤ length ws.now) }
-    requires i_in_bounds { i < length types.now }
-    ensures { result ≡ body_of ws.now (type_at p.now (get_or types.now i 0)) i }
-{
-    let n = octets::wide_index(i);
-    let at = octets::wide_index(types[n]);
-    let kind = program::views::kind(p, at);
-    if kind != kinds::RECURSIVE {
-        return Body::Other;
+impl Basis<'_> {
+    // The same of what codes stand on.
+    pub fn unfolded(&self, i: u16) -> Option<Code>
+        requires { i < length self.now.types.now }
+        ensures { result ≡ body_of self.now.ws.now (type_at self.now.program.now (get_or self.now.types.now i 0)) i }
+    {
+        unfolded(self.program, self.types, self.ws, i)
     }
-    let body = figures::number_of(ws, program::views::first(p, at));
-    Body::Of(codes::under(body, figures::number_of(ws, i)))
 }

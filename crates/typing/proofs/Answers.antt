@@ -15,7 +15,7 @@ use package.Rattle.types.proofs.Growing.{agree_refl, agree_trans, agree-down, tr
 use package.Rattle.types.proofs.Outer.{known_up}
 use package.Rattle.typing.specs.Contexts.{UsedBy, Owed}
 use package.Rattle.typing.specs.Outcomes.{fault_of, status_of}
-use package.Rattle.typing.specs.Ready.{context_in, Ready, Kept, Inferred, Widened, PartKnown, After}
+use package.Rattle.typing.specs.Ready.{context_in, Ready, Kept, Inferred, Widened}
 use package.Rattle.typing.proofs.Contexts.{context-same}
 use package.Rattle.typing.proofs.Naming.{variable-same}
 use package.Rattle.varsets.specs.Sets.{has}
@@ -26,9 +26,9 @@ use Rattle.typing.specs.declared.outcomes.Scope.{Scope}
 use Rattle.typing.specs.declared.outcomes.Found.{Found}
 use Rattle.typing.specs.declared.outcomes.Fault.{Fault}
 use Rattle.typing.specs.declared.outcomes.Fault.TheVariants.{Differ, Unscoped, Misused}
-use Rattle.typing.specs.declared.outcomes.Status.{Status}
-use Rattle.typing.specs.declared.outcomes.Status.TheVariants.{Typed, Refused}
-use Rattle.typing.specs.declared.outcomes.Out.{Out}
+use package.Rattle.typing.specs.Outcomes.{Status}
+use Rattle.std.specs.Prelude.{Ok, Err}
+use package.Rattle.typing.specs.Outcomes.{Out}
 
 ----------------------------------------------------------------
 -- What an outcome says
@@ -50,12 +50,12 @@ bad-then w k e = ap (λ m. m >>= k) e ∙ fault_then w k
 
 -- the end of an outcome: its status means `res`, as `Inferred` says of all but the namings
 pub record Ends (T : Term) (p types heap : List ℕ) (top : ℕ) (s : Status) (res : Checked Ty) : Type 0 where
-  pub known : (f : Found) → s ≡ Typed f → Known (length types) top f.code
-  pub uses : (f : Found) → s ≡ Typed f → UsedBy f.uses T
+  pub known : (f : Found) → s ≡ Ok f → Known (length types) top f.code
+  pub uses : (f : Found) → s ≡ Ok f → UsedBy f.uses T
   pub answer : status_of (tree_in p types heap) s ≡ res
 
 module _ {T : Term} {p types heap : List ℕ} {top : ℕ} {s : Status} {res : Checked Ty} where
-  pub ends-refused : {w : Fault} → s ≡ Refused w → res ≡ fault_of w → Ends T p types heap top s res
+  pub ends-refused : {w : Fault} → s ≡ Err w → res ≡ fault_of w → Ends T p types heap top s res
   unfolding status_of
   ends-refused e a = record {
     known = λ f q. absurd (typed-refused (sym q ∙ e));
@@ -63,7 +63,7 @@ module _ {T : Term} {p types heap : List ℕ} {top : ℕ} {s : Status} {res : Ch
     answer = ap (status_of (tree_in p types heap)) e ∙ sym a;
   }
 
-  pub ends-typed : {f : Found} → s ≡ Typed f → Known (length types) top f.code → UsedBy f.uses T → res ≡ good (tree_in p types heap f.code)
+  pub ends-typed : {f : Found} → s ≡ Ok f → Known (length types) top f.code → UsedBy f.uses T → res ≡ good (tree_in p types heap f.code)
       → Ends T p types heap top s res
   unfolding status_of
   ends-typed e k n a = record {
@@ -74,11 +74,11 @@ module _ {T : Term} {p types heap : List ℕ} {top : ℕ} {s : Status} {res : Ch
 
 pub inferred : {size : ℕ} {T : Term} {W : List Naming} {p types heap heap' : List ℕ} {m : ℕ} {vars vars' : List ℕ} {top : ℕ} {out : Out} {res : Checked Ty}
     → Kept size p types heap heap' m vars vars' top out.top → Ends T p types heap' out.top out.status res
-    → ((f : Found) → out.status ≡ Typed f → added vars vars' ≡ W) → Inferred size T W p types heap heap' m vars vars' top out res
+    → ((f : Found) → out.status ≡ Ok f → added vars vars' ≡ W) → Inferred size T W p types heap heap' m vars vars' top out res
 inferred K E w = record { kept = K; known = E.known; uses = E.uses; waits = w; answer = E.answer }
 
 -- of a refusal no namings are asked for
-pub refusing : {s : Status} {w : Fault} {A : Type 0} → s ≡ Refused w → (f : Found) → s ≡ Typed f → A
+pub refusing : {s : Status} {w : Fault} {A : Type 0} → s ≡ Err w → (f : Found) → s ≡ Ok f → A
 refusing e f q = absurd (typed-refused (sym q ∙ e))
 
 ----------------------------------------------------------------
@@ -158,7 +158,7 @@ module _ {p types : List ℕ} where
 
 pub stopped : (size : ℕ) {T : Term} {W : List Naming} {p types heap : List ℕ} (m : ℕ) (vars : List ℕ) {top : ℕ} {r : Out} {w : Fault} {res : Checked Ty}
     → Sources p types heap top
-    → r.status ≡ Refused w → r.top ≡ top → res ≡ fault_of w → Inferred size T W p types heap heap m vars vars top r res
+    → r.status ≡ Err w → r.top ≡ top → res ≡ fault_of w → Inferred size T W p types heap heap m vars vars top r res
 stopped size {p = p} {types} {heap} m vars {top} S e q a =
     inferred (subst (λ x. Kept size p types heap heap m vars vars top x) (sym q) (kept-still size m vars S)) (ends-refused e a) (refusing e)
 
@@ -173,23 +173,20 @@ module _ {A : Type 0} (b : Bool) (n : ℕ) (place : Site) (next : Checked A) whe
 
 module _ {size : ℕ} {E : Term} {W : List Naming} {p types heap heap₁ : List ℕ} {m : ℕ} {vars vars₁ : List ℕ} {top : ℕ} {r : Out} {part : Checked Ty}
     (d : Inferred size E W p types heap heap₁ m vars vars₁ top r part) where
-  pub answered : {f : Found} → r.status ≡ Typed f → part ≡ good (tree_in p types heap₁ f.code)
+  pub answered : {f : Found} → r.status ≡ Ok f → part ≡ good (tree_in p types heap₁ f.code)
   unfolding status_of
   answered e = sym d.answer ∙ ap (status_of (tree_in p types heap₁)) e
 
-  pub refused : {w : Fault} → r.status ≡ Refused w → part ≡ fault_of w
+  pub refused : {w : Fault} → r.status ≡ Err w → part ≡ fault_of w
   unfolding status_of
   refused e = sym d.answer ∙ ap (status_of (tree_in p types heap₁)) e
-
-  pub told : PartKnown p types heap₁ r
-  told = record { sources = d.kept.sources; known = d.known }
 
   -- the same, said to mean other things that are equal
   pub says : {part' : Checked Ty} {W' : List Naming} → part ≡ part' → W ≡ W' → Inferred size E W' p types heap heap₁ m vars vars₁ top r part'
   says e e' = record { kept = d.kept; known = d.known; uses = d.uses; waits = λ f q. d.waits f q ∙ e'; answer = d.answer ∙ e }
 
   -- a part is refused, and so is the whole
-  pub part-refused : (size' : ℕ) {T : Term} {W' : List Naming} {w : Fault} {res : Checked Ty} (next : Ty → Checked Ty) → r.status ≡ Refused w
+  pub part-refused : (size' : ℕ) {T : Term} {W' : List Naming} {w : Fault} {res : Checked Ty} (next : Ty → Checked Ty) → r.status ≡ Err w
       → res ≡ (part >>= next) → size ≤ size'
       → Inferred size' T W' p types heap heap₁ m vars vars₁ top r res
   part-refused size' {w = w} next e a s = inferred (kept_more size' d.kept s) (ends-refused e (a ∙ bad-then w next (refused e))) (refusing e)
@@ -217,25 +214,12 @@ module _ {size : ℕ} {E : Term} {W : List Naming} {p types heap heap₁ : List 
     answer = d.answer;
   }
 
-  -- a test comes after it
-  pub part-tested : (size' : ℕ) {T : Term} {out : Out} {Next : Found → Status → Type 0} {res : Checked Ty} (next : Ty → Checked Ty)
-      → After r out Next → res ≡ (part >>= next) → size ≤ size'
-      → ((f : Found) → Known (length types) r.top f.code → UsedBy f.uses E → Next f out.status
-      → Ends T p types heap₁ r.top out.status (next (tree_in p types heap₁ f.code)))
-      → Inferred size' T W p types heap heap₁ m vars vars₁ top out res
-  part-tested size' {T} {out} {res = res} next A e s go = inferred
-      (subst (λ x. Kept size' p types heap heap₁ m vars vars₁ top x) (sym A.same) (kept_more size' d.kept s))
-      (subst (λ x. Ends T p types heap₁ x out.status res) (sym A.same) (by r.status refl))
-      (λ f q. waiting f q r.status refl)
-    where
-      by : (s : Status) → r.status ≡ s → Ends T p types heap₁ r.top out.status res
-      by (Refused w) q = ends-refused (A.refused w q) (e ∙ bad-then w next (refused q))
-      by (Typed f) q = subst (Ends T p types heap₁ r.top out.status) (sym (e ∙ good-then next (answered q)))
-          (go f (d.known f q) (d.uses f q) (A.typed f q))
-
-      waiting : (f : Found) → out.status ≡ Typed f → (s : Status) → r.status ≡ s → added vars vars₁ ≡ W
-      waiting f q (Refused w) x = refusing (A.refused w x) f q
-      waiting f q (Typed g) x = d.waits g x
+  -- a test comes after it, once it is typed
+  pub part-tested : (size' : ℕ) {T : Term} {f : Found} {s : Status} {res : Checked Ty} (next : Ty → Checked Ty)
+      → r.status ≡ Ok f → res ≡ (part >>= next) → size ≤ size' → Ends T p types heap₁ r.top s (next (tree_in p types heap₁ f.code))
+      → Inferred size' T W p types heap heap₁ m vars vars₁ top (record { status = s; top = r.top }) res
+  part-tested size' {T} {f} {s} next x e h ends = inferred (kept_more size' d.kept h)
+      (subst (Ends T p types heap₁ r.top s) (sym (e ∙ good-then next (answered x))) ends) (λ g q. d.waits f x)
 
 ----------------------------------------------------------------
 -- What stays ready

@@ -13,9 +13,10 @@ use package.Rattle.rules.specs.Typing.{dynamic, Context}
 use package.Rattle.rules.specs.Check.{Naming, term, Checked, good, ◌>>=◌, ◌>>◌, need, as_sum, spent, same_use, waits_in, room, infer}
 use package.Rattle.rules.proofs.Typing.Waiting.{waits_case}
 use package.Rattle.program.specs.Parts.{first, second, third}
-use package.Rattle.program.specs.Kinds.{sum_kind, case_kind}
+use package.Rattle.program.specs.Kinds.{case_kind}
 use package.Rattle.types.specs.declared.codes.Code.{Code}
 use package.Rattle.types.specs.declared.shapes.Shape.{Shape}
+use package.Rattle.types.specs.declared.shapes.Shape.TheVariants as shape
 use package.Rattle.types.specs.Codes.{tree_in, Known}
 use package.Rattle.types.specs.Shapes.{Shaped}
 use package.Rattle.types.proofs.Asked.{a_sum, no-sum}
@@ -23,9 +24,9 @@ use package.Rattle.varsets.specs.declared.Uses.{Uses}
 use package.Rattle.varsets.specs.Sets.{Holds, has, joined}
 use package.Rattle.typing.specs.Contexts.{UsedBy}
 use package.Rattle.typing.specs.Sizes.{terms_in}
-use package.Rattle.typing.specs.Asked.{ReadyBranches, Infers, branch_waits, InfersBranches}
+use package.Rattle.typing.specs.Asked.{ReadyAt, ReadyBranches, Infers, branch_waits, InfersBranches}
 use package.Rattle.typing.specs.Outcomes.{fault_of}
-use package.Rattle.typing.specs.Ready.{term_in, context_in, typing_of, type_in, branches_of, spent_by, Ready, Here, Kept, Inferred, Widened, After, Meets}
+use package.Rattle.typing.specs.Ready.{term_in, context_in, typing_of, type_in, branches_of, spent_by, Ready, Here, Kept, Inferred, Widened, Meets}
 use package.Rattle.typing.proofs.Contexts.{same_use_iff}
 use package.Rattle.typing.proofs.Answers.{Ends, ends-refused, ends-typed, inferred, refusing, kept_then, kept_more, kept-opened, tree_later, known_later}
 use package.Rattle.typing.proofs.Answers.{stopped, need_yes, need-no, answered, part-refused, earlier, part-tested, says, good-then, ready-less}
@@ -37,15 +38,14 @@ use Rattle.typing.specs.declared.outcomes.Scope.{Scope}
 use Rattle.typing.specs.declared.outcomes.Found.{Found}
 use Rattle.typing.specs.declared.outcomes.Fault.{Fault}
 use Rattle.typing.specs.declared.outcomes.Fault.TheVariants.{Differ, Unscoped, Misused}
-use Rattle.typing.specs.declared.outcomes.Status.TheVariants.{Typed, Refused}
-use Rattle.typing.specs.declared.outcomes.Out.{Out}
+use Rattle.std.specs.Prelude.{Ok, Err}
+use package.Rattle.typing.specs.Outcomes.{Status, Out}
 
 ----------------------------------------------------------------
 -- The scrutinee
 
-module _ {p types terms functions nodes heap vars : List ℕ} {sc : Scope} {top t at : ℕ}
-    (rd : Ready (terms_in (term_in p types terms t)) p types terms functions nodes heap vars sc top)
-    (H : Here p terms t at case_kind) where
+module _ {p types terms functions : List ℕ} {table : List (List ℕ)} {nodes heap vars : List ℕ} {sc : Scope} {top t at : ℕ}
+    (asked : ReadyAt p types terms functions table nodes heap vars sc top t at case_kind) where
   abbrev goal : Checked Ty
   goal = type_in p types terms functions heap vars sc t
 
@@ -62,12 +62,12 @@ module _ {p types terms functions nodes heap vars : List ℕ} {sc : Scope} {top 
   rule_case : (e : ℕ) → e ≡ first p at → goal ≡ (need (leb (1 + length Δ) max_variables) 7 (term t) >> (type_in p types terms functions heap vars sc e >>= λ τ.
       as_sum (term t) τ λ c d. branches_of p types terms functions Δ t B B' c d))
   unfolding infer room
-  rule_case e q = ap (typing_of p types terms functions Δ) (tree_case rd.entries H ∙ ap (λ e. tcase t e B B') (ap (term_in p types terms) (sym q)))
+  rule_case e q = ap (typing_of p types terms functions Δ) (tree_case asked.ready.entries asked.here ∙ ap (λ e. tcase t e B B') (ap (term_in p types terms) (sym q)))
 
-  pub case_full : {r : Out} → sc.n ≡ max_variables → r.status ≡ Refused (Unscoped t) → r.top ≡ top
+  pub case_full : {r : Out} → sc.n ≡ max_variables → r.status ≡ Err (Unscoped t) → r.top ≡ top
       → Infers p types terms functions heap heap vars vars sc top t r
   unfolding fault_of
-  case_full x s z = stopped _ sc.n vars rd.scoped.sources s z
+  case_full x s z = stopped _ sc.n vars asked.ready.scoped.sources s z
       (rule_case _ refl ∙ need-no _ _ _ _ (over 1 sc.n (as_many p types heap vars sc) (omega arith)))
 
   module _ (free : ¬ (sc.n ≡ max_variables)) {e : ℕ} (q : e ≡ first p at) where
@@ -75,38 +75,38 @@ module _ {p types terms functions nodes heap vars : List ℕ} {sc : Scope} {top 
     E = term_in p types terms e
 
     pub case_free : sc.n < max_variables
-    case_free = omega (arith, rd.scoped.few)
+    case_free = omega (arith, asked.ready.scoped.few)
 
     size_case : suc (terms_in E + (terms_in B + terms_in B')) ≡ terms_in (term_in p types terms t)
     unfolding terms_in
-    size_case = sym (ap terms_in (tree_case rd.entries H ∙ ap (λ e. tcase t e B B') (ap (term_in p types terms) (sym q))))
+    size_case = sym (ap terms_in (tree_case asked.ready.entries asked.here ∙ ap (λ e. tcase t e B B') (ap (term_in p types terms) (sym q))))
 
     rule : goal ≡ (type_in p types terms functions heap vars sc e >>= λ τ. as_sum (term t) τ λ c d. branches_of p types terms functions Δ t B B' c d)
     rule = rule_case e q ∙ need_yes _ _ _ _ (fits 1 sc.n (as_many p types heap vars sc) (omega (arith, case_free)))
 
     pub case_ready : Ready (terms_in E) p types terms functions nodes heap vars sc top
-    case_ready = ready-less rd _ (omega (arith, size_case))
+    case_ready = ready-less asked.ready _ (omega (arith, size_case))
 
     pub case_part : (e < t) × (e < length terms)
-    case_part = rw q (parts_case rd.entries H).0
+    case_part = rw q (parts_case asked.ready.entries asked.here).0
 
     waits_is : (c d : Ty) → waits_in Δ (term_in p types terms t) ≡ (waits_in Δ E ++ branch_waits Δ B B' c d)
-    waits_is c d = ap (waits_in Δ) (tree_case rd.entries H ∙ ap (λ e. tcase t e B B') (ap (term_in p types terms) (sym q))) ∙ waits_case c d Δ t E B B'
+    waits_is c d = ap (waits_in Δ) (tree_case asked.ready.entries asked.here ∙ ap (λ e. tcase t e B B') (ap (term_in p types terms) (sym q))) ∙ waits_case c d Δ t E B B'
 
     module _ {heap₁ vars₁ : List ℕ} {o : Out} (d : Infers p types terms functions heap heap₁ vars vars₁ sc top e o) where
-      pub case_refused : {w : Fault} → o.status ≡ Refused w
+      pub case_refused : {w : Fault} → o.status ≡ Err w
           → Infers p types terms functions heap heap₁ vars vars₁ sc top t o
       case_refused x = part-refused d _ _ x rule (omega (arith, size_case))
 
       pub case_later : Ready (terms_in B + terms_in B') p types terms functions nodes heap₁ vars₁ sc o.top
-      case_later = ready_later rd d.kept _ (omega (arith, size_case))
+      case_later = ready_later asked.ready d.kept _ (omega (arith, size_case))
 
-      module _ {f : Found} (x : o.status ≡ Typed f) {s : Shape} (S : Shaped p types heap₁ o.top f.code s) where
+      module _ {f : Found} (x : o.status ≡ Ok f) {s : Shape} (S : Shaped p types heap₁ o.top f.code s) where
         -- the scrutinee's uses
         pub case_named : UsedBy f.uses (term_in p types terms (first p at))
         case_named = subst (λ e. UsedBy f.uses (term_in p types terms e)) q (d.uses f x)
 
-        pub case_no : {r : Out} → ¬ (s.kind ≡ sum_kind) → r.status ≡ Refused (Differ t) → r.top ≡ o.top
+        pub case_no : {r : Out} → ((a b : Code) → ¬ (s ≡ shape.Sum a b)) → r.status ≡ Err (Differ t) → r.top ≡ o.top
             → Infers p types terms functions heap heap₁ vars vars₁ sc top t r
         unfolding fault_of
         case_no n y z = inferred
@@ -114,20 +114,26 @@ module _ {p types terms functions nodes heap vars : List ℕ} {sc : Scope} {top 
             (kept_more _ d.kept (omega (arith, size_case))))
             (ends-refused y (rule ∙ good-then _ (answered d x) ∙ no-sum S (term t) _ n)) (refusing y)
 
-        pub case_done : s.kind ≡ sum_kind → {heap₂ vars₂ : List ℕ} {out : Out}
-            → InfersBranches p types terms functions heap₁ heap₂ vars₁ vars₂ sc o.top t at s.first s.second out
+        case_shaped : {a b : Code} → s ≡ shape.Sum a b → Shaped p types heap₁ o.top f.code (shape.Sum a b)
+        case_shaped k = subst (Shaped p types heap₁ o.top f.code) k S
+
+        pub case_parts : {a b : Code} → s ≡ shape.Sum a b → Known (length types) o.top a × Known (length types) o.top b
+        case_parts k = (case_shaped k).parts
+
+        pub case_done : {c d : Code} → s ≡ shape.Sum c d → {heap₂ vars₂ : List ℕ} {out : Out}
+            → InfersBranches p types terms functions heap₁ heap₂ vars₁ vars₂ sc o.top t at c d out
             → Infers p types terms functions heap heap₂ vars vars₂ sc top t out
-        case_done k b = says (earlier (says b
-            (ap (λ Γ. branches_of p types terms functions Γ t B B' α β) (context_later rd d.kept)
-            ∙ sym (rule ∙ good-then _ (answered d x) ∙ a_sum S (term t) _ k))
-            (ap (λ Γ. branch_waits Γ B B' α β) (context_later rd d.kept))) _ d.kept (d.waits f x) (omega arith) (omega (arith, size_case)))
+        case_done {c = c₁} {d = c₂} k b = says (earlier (says b
+            (ap (λ Γ. branches_of p types terms functions Γ t B B' α β) (context_later asked.ready d.kept)
+            ∙ sym (rule ∙ good-then _ (answered d x) ∙ a_sum (term t) _ (case_shaped k)))
+            (ap (λ Γ. branch_waits Γ B B' α β) (context_later asked.ready d.kept))) _ d.kept (d.waits f x) (omega arith) (omega (arith, size_case)))
             refl (sym (waits_is α β))
           where
             α : Ty
-            α = tree_in p types heap₁ s.first
+            α = tree_in p types heap₁ c₁
 
             β : Ty
-            β = tree_in p types heap₁ s.second
+            β = tree_in p types heap₁ c₂
 
 ----------------------------------------------------------------
 -- The branches
@@ -203,7 +209,7 @@ module _ {p types terms functions : List ℕ} {table : List (List ℕ)} {nodes h
     left_whole = earlier (says D (ap (λ Δ. typing_of p types terms functions Δ L) O.context) (ap (λ Δ. waits_in Δ L) O.context)) _
         (kept-opened O) (added-still O.waited) (omega (arith, O.one_more)) (omega arith)
 
-    pub left-refused : {w : Fault} → o.status ≡ Refused w → InfersBranches p types terms functions heap heap₁ vars vars₂ sc top t at c d o
+    pub left-refused : {w : Fault} → o.status ≡ Err w → InfersBranches p types terms functions heap heap₁ vars vars₂ sc top t at c d o
     left-refused x = part-refused left_whole _ _ x aim_is (omega (arith, size_is))
 
     pub left-known : Known (length types) o.top c
@@ -216,7 +222,7 @@ module _ {p types terms functions : List ℕ} {table : List (List ℕ)} {nodes h
     pub right-known : Known (length types) o.top d
     right-known = known_later rd.scoped.sources left_whole.kept K'
 
-    module _ {f : Found} (x : o.status ≡ Typed f) {b : Bool} (y : b ≡ spent_by p types heap₁ c sc.n f.uses) where
+    module _ {f : Found} (x : o.status ≡ Ok f) {b : Bool} (y : b ≡ spent_by p types heap₁ c sc.n f.uses) where
       abbrev τ : Ty
       τ = tree_in p types heap₁ f.code
 
@@ -228,7 +234,7 @@ module _ {p types terms functions : List ℕ} {table : List (List ℕ)} {nodes h
           need (same_ty τ τ') 6 (term t) >> (need (spent (length Γ) δ R && same_use Γ L R) 8 (term t) >> good τ)))
       aim-left = aim_is ∙ good-then _ (answered left_whole x)
 
-      pub left-unused : {out : Out} → b ≡ false → out.status ≡ Refused (Misused t) → out.top ≡ o.top
+      pub left-unused : {out : Out} → b ≡ false → out.status ≡ Err (Misused t) → out.top ≡ o.top
           → InfersBranches p types terms functions heap heap₁ vars vars₂ sc top t at c d out
       unfolding fault_of
       left-unused n s z = inferred
@@ -255,61 +261,68 @@ module _ {p types terms functions : List ℕ} {table : List (List ℕ)} {nodes h
         pub meet-bound : Known (length types) o₂.top d
         meet-bound = known_later D.kept.sources D₂.kept right-known
 
-        module _ {out : Out} (A : After o₂ out (Meets p types heap₂ f u sc.n d sc.owed t)) where
-          next : Ty → Checked Ty
-          next τ' = need (same_ty τ τ') 6 (term t) >> (need (spent (length Γ) δ R && same_use Γ L R) 8 (term t) >> good τ)
+        next : Ty → Checked Ty
+        next τ' = need (same_ty τ τ') 6 (term t) >> (need (spent (length Γ) δ R && same_use Γ L R) 8 (term t) >> good τ)
 
-          module _ (g : Found) (k : Known (length types) o₂.top g.code) (N : UsedBy g.uses R)
-              (P : Meets p types heap₂ f u sc.n d sc.owed t g out.status) where
-            abbrev Met : Type 0
-            Met = Ends (term_in p types terms t) p types heap₂ o₂.top out.status (next (tree_in p types heap₂ g.code))
+        aim-right : aim ≡ (typing_of p types terms functions (dynamic false δ ∷ Γ) R >>= next)
+        unfolding next
+        aim-right = aim-left ∙ need_yes _ _ _ _ (sym left-spent ∙ yes)
 
-            τ-later : τ ≡ tree_in p types heap₂ f.code
-            τ-later = tree_later D.kept.sources D₂.kept (D.known f x)
+        pub right-refused : {w : Fault} → o₂.status ≡ Err w → InfersBranches p types terms functions heap heap₂ vars vars₄ sc top t at c d o₂
+        right-refused z = part-refused right_whole size next z aim-right (omega arith)
 
-            abbrev alike : Bool
-            alike = same_ty (tree_in p types heap₂ f.code) (tree_in p types heap₂ g.code)
+        module _ {g : Found} (z : o₂.status ≡ Ok g) {s : Status} (P : Meets p types heap₂ f u sc.n d sc.owed t g s) where
+          N : UsedBy g.uses R
+          N = D₂.uses g z
 
-            alike_is : same_ty τ (tree_in p types heap₂ g.code) ≡ alike
-            alike_is = ap (λ τ. same_ty τ (tree_in p types heap₂ g.code)) τ-later
+          abbrev Met : Type 0
+          Met = Ends (term_in p types terms t) p types heap₂ o₂.top s (next (tree_in p types heap₂ g.code))
 
-            used_is : spent_by p types heap₂ d sc.n g.uses ≡ spent (length Γ) δ R
-            used_is = spent_is p types heap₂ d sc.n g.uses R free (as_many p types heap vars sc)
-                (tree_later rd.scoped.sources right_whole.kept K') N
+          τ-later : τ ≡ tree_in p types heap₂ f.code
+          τ-later = tree_later D.kept.sources D₂.kept (D.known f x)
 
-            -- the uses of case
-            case_uses : {v : Uses} → Holds v (joined (has u) (joined (has f.uses) (has g.uses))) → UsedBy v (term_in p types terms t)
-            case_uses J = record {
-              each = λ i h. J.each i h ∙ ap₂ ◌||◌ (scrutinee-uses.each i h) (ap₂ ◌||◌ ((D.uses f x).each i h) (N.each i h))
-                  ∙ sym (ap (used_in i) (tree_case rd.entries H
-                  ∙ ap₂ (λ l r. tcase t (term_in p types terms (first p at)) (term_in p types terms l) (term_in p types terms r)) (sym q) (sym q')));
-            }
+          abbrev alike : Bool
+          alike = same_ty (tree_in p types heap₂ f.code) (tree_in p types heap₂ g.code)
 
-            met-both : alike ≡ true → spent_by p types heap₂ d sc.n g.uses ≡ true → (v : Bool) → same_use Γ L R ≡ v → Met
-            unfolding fault_of next
-            met-both a m true w =
-                let U = P.both a m ((same_use_iff Γ L R f.uses g.uses sc.owed (omega (arith, as_many p types heap vars sc)) (D.uses f x) N
-                rd.scoped.owed).0 w) in
-                ends-typed U.is (subst (Known (length types) o₂.top) (sym U.code) meet_left) (case_uses U.uses)
-                (need_yes _ _ _ _ (alike_is ∙ a) ∙ need_yes _ _ _ _ (ap₂ ◌&&◌ (sym used_is ∙ m) w)
-                ∙ ap good (τ-later ∙ ap (tree_in p types heap₂) (sym U.code)))
-            met-both a m false w = ends-refused
-                (P.apart a λ z. false≢true (sym w ∙ (same_use_iff Γ L R f.uses g.uses sc.owed (omega (arith, as_many p types heap vars sc))
-                (D.uses f x) N rd.scoped.owed).1 z))
-                (need_yes _ _ _ _ (alike_is ∙ a) ∙ need-no _ _ _ _ (ap₂ ◌&&◌ (sym used_is ∙ m) w))
+          alike_is : same_ty τ (tree_in p types heap₂ g.code) ≡ alike
+          alike_is = ap (λ τ. same_ty τ (tree_in p types heap₂ g.code)) τ-later
 
-            met-alike : alike ≡ true → (v : Bool) → spent_by p types heap₂ d sc.n g.uses ≡ v → Met
-            unfolding fault_of next
-            met-alike a true m = met-both a m (same_use Γ L R) refl
-            met-alike a false m = ends-refused (P.unused a m)
-                (need_yes _ _ _ _ (alike_is ∙ a) ∙ need-no _ _ _ _ (ap (λ v. v && same_use Γ L R) (sym used_is ∙ m)))
+          used_is : spent_by p types heap₂ d sc.n g.uses ≡ spent (length Γ) δ R
+          used_is = spent_is p types heap₂ d sc.n g.uses R free (as_many p types heap vars sc)
+              (tree_later rd.scoped.sources right_whole.kept K') N
 
-            met : (v : Bool) → alike ≡ v → Met
-            unfolding fault_of next
-            met true a = met-alike a (spent_by p types heap₂ d sc.n g.uses) refl
-            met false a = ends-refused (P.differ a) (need-no _ _ _ _ (alike_is ∙ a))
+          -- the uses of case
+          case_uses : {v : Uses} → Holds v (joined (has u) (joined (has f.uses) (has g.uses))) → UsedBy v (term_in p types terms t)
+          case_uses J = record {
+            each = λ i h. J.each i h ∙ ap₂ ◌||◌ (scrutinee-uses.each i h) (ap₂ ◌||◌ ((D.uses f x).each i h) (N.each i h))
+                ∙ sym (ap (used_in i) (tree_case rd.entries H
+                ∙ ap₂ (λ l r. tcase t (term_in p types terms (first p at)) (term_in p types terms l) (term_in p types terms r)) (sym q) (sym q')));
+          }
 
-          pub branches_done : InfersBranches p types terms functions heap heap₂ vars vars₄ sc top t at c d out
-          unfolding next
-          branches_done = part-tested right_whole size next A (aim-left ∙ need_yes _ _ _ _ (sym left-spent ∙ yes)) (omega arith)
-              λ g k N P. met g k N P (same_ty (tree_in p types heap₂ f.code) (tree_in p types heap₂ g.code)) refl
+          met-both : alike ≡ true → spent_by p types heap₂ d sc.n g.uses ≡ true → (v : Bool) → same_use Γ L R ≡ v → Met
+          unfolding fault_of next
+          met-both a m true w =
+              let U = P.both a m ((same_use_iff Γ L R f.uses g.uses sc.owed (omega (arith, as_many p types heap vars sc)) (D.uses f x) N
+              rd.scoped.owed).0 w) in
+              ends-typed U.is (subst (Known (length types) o₂.top) (sym U.code) meet_left) (case_uses U.uses)
+              (need_yes _ _ _ _ (alike_is ∙ a) ∙ need_yes _ _ _ _ (ap₂ ◌&&◌ (sym used_is ∙ m) w)
+              ∙ ap good (τ-later ∙ ap (tree_in p types heap₂) (sym U.code)))
+          met-both a m false w = ends-refused
+              (P.apart a λ z. false≢true (sym w ∙ (same_use_iff Γ L R f.uses g.uses sc.owed (omega (arith, as_many p types heap vars sc))
+              (D.uses f x) N rd.scoped.owed).1 z))
+              (need_yes _ _ _ _ (alike_is ∙ a) ∙ need-no _ _ _ _ (ap₂ ◌&&◌ (sym used_is ∙ m) w))
+
+          met-alike : alike ≡ true → (v : Bool) → spent_by p types heap₂ d sc.n g.uses ≡ v → Met
+          unfolding fault_of next
+          met-alike a true m = met-both a m (same_use Γ L R) refl
+          met-alike a false m = ends-refused (P.unused a m)
+              (need_yes _ _ _ _ (alike_is ∙ a) ∙ need-no _ _ _ _ (ap (λ v. v && same_use Γ L R) (sym used_is ∙ m)))
+
+          met : (v : Bool) → alike ≡ v → Met
+          unfolding fault_of next
+          met true a = met-alike a (spent_by p types heap₂ d sc.n g.uses) refl
+          met false a = ends-refused (P.differ a) (need-no _ _ _ _ (alike_is ∙ a))
+
+          pub branches_done : InfersBranches p types terms functions heap heap₂ vars vars₄ sc top t at c d (record { status = s; top = o₂.top })
+          branches_done = part-tested right_whole size next z aim-right (omega arith)
+              (met (same_ty (tree_in p types heap₂ f.code) (tree_in p types heap₂ g.code)) refl)

@@ -35,8 +35,8 @@ use package.Rattle.typing.specs.declared.outcomes.Scope.{Scope}
 use package.Rattle.typing.specs.declared.outcomes.Found.{Found}
 use package.Rattle.typing.specs.declared.outcomes.Fault.{Fault}
 use package.Rattle.typing.specs.declared.outcomes.Fault.TheVariants.{Differ, Unscoped, Misused}
-use package.Rattle.typing.specs.declared.outcomes.Status.TheVariants.{Typed, Refused}
-use package.Rattle.typing.specs.declared.outcomes.Out.{Out}
+use Rattle.std.specs.Prelude.{Ok, Err}
+use package.Rattle.typing.specs.Outcomes.{Out}
 use package.Rattle.typing.specs.Sizes.{terms_in}
 use package.Rattle.typing.specs.Outcomes.{fault_of, status_of, meaning}
 use package.Rattle.typing.specs.Ready.{term_in, typing_of, Entered, Ready}
@@ -162,7 +162,7 @@ module _ {xs types terms functions nodes heap : List ℕ} (Y : Typeable xs types
       unfolding function_of
       answered = I.answer ∙ ap₂ (typing_of xs types terms functions) S.context the_body
 
-      pub typed-answer : {f : Found} {a : Answer (Unit {0})} → out.status ≡ Typed f
+      pub typed-answer : {f : Found} {a : Answer (Unit {0})} → out.status ≡ Ok f
           → a ≡ end_answer xs types at (tree_in xs types heap' f.code) (has f.uses (parameters_at xs at - 1)) → a ≡ function_answer xs types terms functions g
       unfolding end_answer spent status_of offset function_of ◌>>=◌ max_parameters
       typed-answer {f} t r = r ∙ sym (by_offset
@@ -180,7 +180,7 @@ module _ {xs types terms functions nodes heap : List ℕ} (Y : Typeable xs types
           used : used_in n (function_in xs types terms at).body ≡ has f.uses (parameters_at xs at - 1)
           used = ap (used_in n) (sym the_body) ∙ sym ((I.uses f t).each n (omega (arith, count, field.few))) ∙ ap (has f.uses) count
 
-      pub refused-answer : {why : Fault} {a : Answer (Unit {0})} → out.status ≡ Refused why → a ≡ fault_answer terms why
+      pub refused-answer : {why : Fault} {a : Answer (Unit {0})} → out.status ≡ Err why → a ≡ fault_answer terms why
           → a ≡ function_answer xs types terms functions g
       unfolding status_of
       refused-answer {why} t r = r ∙ sym (by_offset

@@ -14,7 +14,7 @@ use package.Rattle.rules.specs.Term.{Term, used_in}
 use package.Rattle.rules.specs.Typing.{Context, Vars, mark}
 use package.Rattle.rules.specs.Check.{Naming, Site, term, Checked, good, bad, ◌>>=◌, ◌>>◌, spent, dynamics}
 use package.Rattle.rules.specs.Check.{marks, helps, onward, late, waits_in, unhelped, unless, need_none}
-use package.Rattle.rules.proofs.Basics.{given, and_both}
+use package.Rattle.rules.proofs.Basics.{and_both}
 use package.Rattle.rules.proofs.Typing.Namings.{no-places}
 use package.Rattle.types.specs.declared.codes.Code.{Code}
 use package.Rattle.types.specs.Codes.{tree_in, Known}
@@ -24,17 +24,18 @@ use package.Rattle.typing.specs.Contexts.{context_at, UsedBy, must_use_at}
 use package.Rattle.typing.specs.Waiting.{count_at, count_in, namings, added, Waited, lower, told_by, dynamic_in, marked_in, helps_in, Settled, Settleable}
 use package.Rattle.typing.specs.Sizes.{terms_in}
 use package.Rattle.typing.specs.Outcomes.{fault_of}
-use package.Rattle.typing.specs.Ready.{variable_at, context_in, spent_by, Ready, Kept, Inferred, MarkedScope, AfterBody, Closes}
+use package.Rattle.typing.specs.Ready.{variable_at, context_in, spent_by, Ready, Kept, Inferred, MarkedScope, Closes}
 use package.Rattle.typing.proofs.Contexts.{length-context, context-same, context-mark, dynamics-context, marks-context, must_use-mark}
 use package.Rattle.typing.proofs.Waiting.{get16-at, bytes_same, namings-then, first_part}
 use package.Rattle.typing.proofs.Settling.{told_is, settled-onward}
-use package.Rattle.typing.proofs.Answers.{Ends, ends-refused, ends-typed, inferred, refusing, kept_more, good-then, bad-then, answered, refused}
+use package.Rattle.typing.proofs.Answers.{part-refused, ends-refused, ends-typed, inferred, refusing, good-then, answered}
 use package.Rattle.typing.proofs.Pairing.{named_both}
 use Rattle.typing.specs.declared.outcomes.Scope.{Scope}
 use Rattle.typing.specs.declared.outcomes.Found.{Found}
-use Rattle.typing.specs.declared.outcomes.Status.{Status}
-use Rattle.typing.specs.declared.outcomes.Status.TheVariants.{Typed, Refused}
-use Rattle.typing.specs.declared.outcomes.Out.{Out}
+use package.Rattle.typing.specs.Outcomes.{Status}
+use Rattle.std.specs.Prelude.{Option, Some, None, Ok, Err}
+use Rattle.typing.specs.declared.outcomes.Fault.{Fault}
+use package.Rattle.typing.specs.Outcomes.{Out}
 
 ----------------------------------------------------------------
 -- Room in the scope, and variables used
@@ -149,7 +150,7 @@ module _ (E B T : Term) {p types terms functions nodes heap vars : List ℕ} {sc
   module _ {vars₁ heap₂ vars₂ : List ℕ} {o₂ : Out} {Wb : List Naming} {part : Checked Ty} (waited₁ : Waited (terms_in E) vars vars₁)
       (new₁ : added vars vars₁ ≡ bound) (waited₂ : Waited (terms_in B) vars₁ vars₂)
       (whole : Inferred (terms_in E + terms_in B) B (bound ++ Wb) p types heap heap₂ sc.n vars vars₂ top o₂ part)
-      (body : (g : Found) → o₂.status ≡ Typed g → added vars₁ vars₂ ≡ Wb) where
+      (body : (g : Found) → o₂.status ≡ Ok g → added vars₁ vars₂ ≡ Wb) where
     -- the namings of the bound term, as the body left them
     bound-left : namings vars₂ (count_in vars) (count_in vars₁ - count_in vars) ≡ bound
     bound-left = first_part waited₁ waited₂ ∙ new₁
@@ -182,7 +183,7 @@ module _ (E B T : Term) {p types terms functions nodes heap vars : List ℕ} {sc
       }
 
       -- what waits after the let
-      settled-added : (M : Vars) (g : Found) → o₂.status ≡ Typed g → late H M bound ≡ [] → added vars vars₃ ≡ (onward H M bound ++ Wb)
+      settled-added : (M : Vars) (g : Found) → o₂.status ≡ Ok g → late H M bound ≡ [] → added vars vars₃ ≡ (onward H M bound ++ Wb)
       settled-added M g q e =
           ap (λ n. namings vars₃ (count_in vars) (n - count_in vars)) (sym settled-count)
           ∙ namings-then vars₃ waited₁.grows waited₂.grows
@@ -191,7 +192,7 @@ module _ (E B T : Term) {p types terms functions nodes heap vars : List ℕ} {sc
           (ap (late H M) bound-left ∙ e) ∙ ap (onward H M) bound-left)
           (sym (bytes_same vars₂ vars₃ (count_in vars₁) (count_in vars₂ - count_in vars₁) λ k a b. S.high k a) ∙ body g q)
 
-    module _ {vars₃ : List ℕ} {t : ℕ} {st : Status} {u : Uses} {g : Found} {b : Bool} (x : o₂.status ≡ Typed g)
+    module _ {vars₃ : List ℕ} {t : ℕ} {st : Status} {u : Uses} {g : Found} {b : Bool} (x : o₂.status ≡ Ok g)
         (C : Closes vars₂ vars₃ sc u b t (count_in vars) (count_in vars₁) g st) where
       abbrev refusals : List ℕ
       refusals = unhelped Δ₀ E B
@@ -203,18 +204,17 @@ module _ (E B T : Term) {p types terms functions nodes heap vars : List ℕ} {sc
 
       -- the lowest place, as the rules have it
       lowest_is : told_by C.low ≡ need_none (unless b t ++ refusals)
-      lowest_is = ap told_by (C.settles.lowest ∙ ap (lower (record { some = not b; place = t })) late_is) ∙ told_is b t refusals
+      lowest_is = ap told_by (C.settles.lowest ∙ ap (lower (cond b None (Some t))) late_is) ∙ told_is b t refusals
 
-      pub let_refuses : C.low.some ≡ true → (need_none (unless b t ++ refusals) >> good (tree_in p types heap₂ g.code)) ≡ bad 8 (term C.low.place)
+      pub let_refuses : {k : ℕ} → C.low ≡ Some k → (need_none (unless b t ++ refusals) >> good (tree_in p types heap₂ g.code)) ≡ bad 8 (term k)
       unfolding told_by ◌>>◌
-      let_refuses y = ap (λ m. m >> good (tree_in p types heap₂ g.code))
-          (sym lowest_is ∙ ap (λ v. cond v (bad 8 (term C.low.place)) (good tt)) y)
+      let_refuses y = ap (λ m. m >> good (tree_in p types heap₂ g.code)) (sym lowest_is ∙ ap told_by y)
 
-      none_refused : C.low.some ≡ false → need_none (unless b t ++ refusals) ≡ good tt
+      none_refused : C.low ≡ None → need_none (unless b t ++ refusals) ≡ good tt
       unfolding told_by
-      none_refused y = sym lowest_is ∙ ap (λ v. cond v (bad 8 (term C.low.place)) (good tt)) y
+      none_refused y = sym lowest_is ∙ ap told_by y
 
-      pub let_accepts : C.low.some ≡ false
+      pub let_accepts : C.low ≡ None
           → (need_none (unless b t ++ refusals) >> good (tree_in p types heap₂ g.code)) ≡ good (tree_in p types heap₂ g.code)
       unfolding ◌>>◌
       let_accepts y = ap (λ m. m >> good (tree_in p types heap₂ g.code)) (none_refused y)
@@ -222,45 +222,38 @@ module _ (E B T : Term) {p types terms functions nodes heap vars : List ℕ} {sc
       pub let_kept : Kept (terms_in T) p types heap heap₂ sc.n vars vars₃ top o₂.top
       let_kept = settled-kept (helps_in sc g.uses) C.settles.settled
 
-      pub let_waits : C.low.some ≡ false → added vars vars₃ ≡ (onward (helps (dynamics Δ₀) B) (marks Δ₀) bound ++ Wb)
+      pub let_waits : C.low ≡ None → added vars vars₃ ≡ (onward (helps (dynamics Δ₀) B) (marks Δ₀) bound ++ Wb)
       let_waits y = settled-added (helps_in sc g.uses) C.settles.settled (marked_in sc) g x
           (sym (ap (late (helps_in sc g.uses) (marked_in sc)) bound-left) ∙ late_is ∙ (no-places b t refusals (none_needed _ (none_refused y))).1)
           ∙ ap₂ (λ H M. onward H M bound ++ Wb)
           (helps_is p types heap vars sc rd.scoped.few g.uses B (whole.uses g x)) (marked_is p types heap vars sc rd.scoped.few)
 
+    -- The body is refused.
+    pub let_stops : {w : Fault} (s : Bool) (t : ℕ) {res : Checked Ty} → o₂.status ≡ Err w
+        → res ≡ (part >>= λ τ. need_none (unless s t ++ unhelped Δ₀ E B) >> good τ)
+        → Inferred (terms_in T) T (onward (helps (dynamics Δ₀) B) (marks Δ₀) bound ++ Wb) p types heap heap₂ sc.n vars vars₂ top o₂ res
+    let_stops s t x rule = part-refused whole _ _ x rule (omega (arith, size_is))
+
     -- The end of a let: of the places for 8, the let's own and those of namings, the lowest, else the body's type.
-    pub let_ends : {vars₃ : List ℕ} {t : ℕ} {out : Out} {u : Uses} {s : Bool} {used : Found → Bool} {res : Checked Ty} → UsedBy u E
-        → AfterBody vars₂ vars₃ o₂ out (λ g. Closes vars₂ vars₃ sc u (used g) t (count_in vars) (count_in vars₁) g)
-        → ((g : Found) → UsedBy g.uses B → used g ≡ s) → res ≡ (part >>= λ τ. need_none (unless s t ++ unhelped Δ₀ E B) >> good τ)
-        → Inferred (terms_in T) T (onward (helps (dynamics Δ₀) B) (marks Δ₀) bound ++ Wb) p types heap heap₂ sc.n vars vars₃ top out res
+    pub let_ends : {vars₃ : List ℕ} {t : ℕ} {st : Status} {g : Found} {u : Uses} {s : Bool} {used : Bool} {res : Checked Ty} → UsedBy u E
+        → o₂.status ≡ Ok g → Closes vars₂ vars₃ sc u used t (count_in vars) (count_in vars₁) g st
+        → (UsedBy g.uses B → used ≡ s) → res ≡ (part >>= λ τ. need_none (unless s t ++ unhelped Δ₀ E B) >> good τ)
+        → Inferred (terms_in T) T (onward (helps (dynamics Δ₀) B) (marks Δ₀) bound ++ Wb) p types heap heap₂ sc.n vars vars₃ top
+        (record { status = st; top = o₂.top }) res
     unfolding fault_of
-    let_ends {vars₃} {t} {out} {u} {s} {used} {res} N A same rule = by o₂.status refl
+    let_ends {vars₃} {t} {st} {g} {u} {s} {used} {res} N x C same rule = closed C.low refl
       where
-        Ended : List ℕ → Type 0
-        Ended v = Inferred (terms_in T) T (onward (helps (dynamics Δ₀) B) (marks Δ₀) bound ++ Wb) p types heap heap₂ sc.n vars v top out res
-
         -- the rule, once the body has its type
-        typed : (g : Found) → o₂.status ≡ Typed g
-            → res ≡ (need_none (unless (used g) t ++ unhelped Δ₀ E B) >> good (tree_in p types heap₂ g.code))
-        typed g x = rule ∙ good-then _ (answered whole x)
-            ∙ ap (λ v. need_none (unless v t ++ unhelped Δ₀ E B) >> good (tree_in p types heap₂ g.code)) (sym (same g (whole.uses g x)))
+        typed : res ≡ (need_none (unless used t ++ unhelped Δ₀ E B) >> good (tree_in p types heap₂ g.code))
+        typed = rule ∙ good-then _ (answered whole x)
+            ∙ ap (λ v. need_none (unless v t ++ unhelped Δ₀ E B) >> good (tree_in p types heap₂ g.code)) (sym (same (whole.uses g x)))
 
-        closed : (g : Found) → o₂.status ≡ Typed g → (C : Closes vars₂ vars₃ sc u (used g) t (count_in vars) (count_in vars₁) g out.status)
-            → (v : Bool) → C.low.some ≡ v → Ended vars₃
-        closed g x C true y = inferred
-            (subst (λ n. Kept (terms_in T) p types heap heap₂ sc.n vars vars₃ top n) (sym A.same) (let_kept x C))
-            (ends-refused (C.no y) (typed g x ∙ let_refuses x C y)) (refusing (C.no y))
-        closed g x C false y = let J = C.yes y in inferred
-            (subst (λ n. Kept (terms_in T) p types heap heap₂ sc.n vars vars₃ top n) (sym A.same) (let_kept x C))
-            (subst (λ n. Ends T p types heap₂ n out.status res) (sym A.same)
+        closed : (v : Option ℕ) → C.low ≡ v
+            → Inferred (terms_in T) T (onward (helps (dynamics Δ₀) B) (marks Δ₀) bound ++ Wb) p types heap heap₂ sc.n vars vars₃ top
+            (record { status = st; top = o₂.top }) res
+        closed (Some k) y = inferred (let_kept x C) (ends-refused (C.no k y) (typed ∙ let_refuses x C y)) (refusing (C.no k y))
+        closed None y = let J = C.yes y in inferred (let_kept x C)
             (ends-typed J.is (subst (Known (length types) o₂.top) (sym J.code) (whole.known g x))
             (named_both T E B uses-are N (whole.uses g x) J.uses)
-            (typed g x ∙ let_accepts x C y ∙ ap (λ c. good (tree_in p types heap₂ c)) (sym J.code))))
+            (typed ∙ let_accepts x C y ∙ ap (λ c. good (tree_in p types heap₂ c)) (sym J.code)))
             (λ h q. let_waits x C y)
-
-        by : (x : Status) → o₂.status ≡ x → Ended vars₃
-        by (Refused w) x = given (A.refused w x) λ (y, z). subst Ended (sym z)
-            (inferred (subst (λ n. Kept (terms_in T) p types heap heap₂ sc.n vars vars₂ top n) (sym A.same)
-            (kept_more _ whole.kept (omega (arith, size_is))))
-            (ends-refused y (rule ∙ bad-then w _ (refused whole x))) (refusing y))
-        by (Typed g) x = closed g x (A.typed g x) (A.typed g x).low.some refl

@@ -42,7 +42,8 @@ module _ {xs types row : List ℕ} {at : ℕ} (S : Signed xs types at row) where
     dynamic-asked s e d = sym (d ∙ ap is_unit (entry-tree xs types heap e
         ∙ ap (type_of (map (type_at xs) types)) (ap (λ i. get_or row i 0) s ∙ row-dynamic S.formed S.signature)))
 
-    pub result-differs : {n : ℕ} {c : Code} {r : Bool} (used : Bool) → n ≡ result_of xs at → c ≡ entry_code n → r ≡ same_ty τ (tree_in xs types heap c) → r ≡ false
+    pub result-differs : {n : ℕ} {c : Code} {r : Bool} (used : Bool) → n ≡ result_of xs at → c ≡ entry_code n
+        → r ≡ same_ty τ (tree_in xs types heap c) → r ≡ false
         → refused 6 at ≡ end_answer xs types at τ used
     unfolding end_answer require ◌>>=◌
     result-differs used s e d f = rw (result_compared s e d ∙ f)

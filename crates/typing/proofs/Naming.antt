@@ -18,13 +18,13 @@ use package.Rattle.rules.specs.Check.{term, good, visible, waits}
 use package.Rattle.rules.specs.Limits.{max_variables}
 use package.Rattle.rules.proofs.Basics.{and-false}
 use package.Rattle.types.specs.declared.codes.Code.{Code}
-use package.Rattle.types.specs.Codes.{tree_in, Known}
+use package.Rattle.types.specs.Codes.{code_at, tree_in, Known}
 use package.Rattle.types.specs.Growth.{put_code}
-use package.Rattle.types.proofs.Growing.{length_code, code_low, code_high, code_same, code_put, Fitting}
+use package.Rattle.types.proofs.Growing.{length_code, code_low, code_high, code_same}
 use package.Rattle.varsets.specs.declared.Uses.{Uses}
 use package.Rattle.varsets.specs.Sets.{Holds, has, alone, ranged, joined}
 use package.Rattle.typing.specs.Contexts.{standing, context_at, must_use_at, Owed}
-use package.Rattle.typing.specs.Outcomes.{status_of, fault_of}
+use package.Rattle.typing.specs.Outcomes.{Status, status_of, fault_of}
 use package.Rattle.typing.specs.Ready.{variable_at, context_in, Scoped, Reads, Seen, Widened, MarkedScope}
 use package.Rattle.typing.specs.Waiting.{variable_bytes, count_at, added, Waited, Waits, dynamic_in, marked_in}
 use package.Rattle.typing.proofs.Contexts.{stands-static, stands-barred, stands-dynamic, length-context, look_context, look_outside, context_bind}
@@ -35,8 +35,7 @@ use Rattle.typing.specs.declared.outcomes.Scope.{Scope}
 use Rattle.typing.specs.declared.outcomes.Found.{Found}
 use Rattle.typing.specs.declared.outcomes.Fault.{Fault}
 use Rattle.typing.specs.declared.outcomes.Fault.TheVariants.{Unscoped, Misused}
-use Rattle.typing.specs.declared.outcomes.Status.TheVariants.{Typed, Refused}
-use Rattle.typing.specs.declared.outcomes.Out.{Out}
+use Rattle.std.specs.Prelude.{Ok, Err}
 
 ----------------------------------------------------------------
 -- A variable as a term
@@ -60,12 +59,11 @@ module _ (vars : List ℕ) (sc : Scope) (t i : ℕ) where
       → visible (term t) (binding_of T) ≡ visible (term t) (some x)
   stands T l e = ap (visible (term t)) (look_context _ sc.q sc.lo (has sc.marks) sc.n i l ∙ ap some e)
 
-module _ (vars : List ℕ) (sc : Scope) (t i : ℕ) {top : ℕ} {r : Out} where
-  refused-seen : {w : Fault} → r.status ≡ Refused w → r.top ≡ top → ((T : Code → Ty) → fault_of w ≡ visible (term t) (binding_of vars sc t i T))
-      → Seen vars vars sc top t i r
+module _ (vars : List ℕ) (sc : Scope) (t i : ℕ) {r : Status} where
+  refused-seen : {w : Fault} → r ≡ Err w → ((T : Code → Ty) → fault_of w ≡ visible (term t) (binding_of vars sc t i T))
+      → Seen vars vars sc t i r
   unfolding status_of
-  refused-seen s e a = record {
-    same = e;
+  refused-seen s a = record {
     there = λ f q. absurd (typed-refused (sym q ∙ s));
     code = λ f q. absurd (typed-refused (sym q ∙ s));
     uses = λ f q. absurd (typed-refused (sym q ∙ s));
@@ -76,58 +74,66 @@ module _ (vars : List ℕ) (sc : Scope) (t i : ℕ) {top : ℕ} {r : Out} where
     lengths = refl;
   }
 
-  pub seen-outside : sc.n ≤ i → r.status ≡ Refused (Unscoped t) → r.top ≡ top → Seen vars vars sc top t i r
+  pub seen-outside : sc.n ≤ i → r ≡ Err (Unscoped t) → Seen vars vars sc t i r
   unfolding fault_of visible
-  seen-outside l s e = refused-seen s e λ T. sym (ap (visible (term t)) (look_outside _ sc.q sc.lo (has sc.marks) sc.n i l))
+  seen-outside l s = refused-seen s λ T. sym (ap (visible (term t)) (look_outside _ sc.q sc.lo (has sc.marks) sc.n i l))
 
-  pub seen-barred : i < sc.n → sc.q ≤ i → i < sc.lo → has sc.marks i ≡ false → r.status ≡ Refused (Misused t) → r.top ≡ top
-      → Seen vars vars sc top t i r
+  pub seen-barred : i < sc.n → sc.q ≤ i → i < sc.lo → has sc.marks i ≡ false → r ≡ Err (Misused t)
+      → Seen vars vars sc t i r
   unfolding fault_of visible
-  seen-barred l h h' m s e = refused-seen s e λ T.
+  seen-barred l h h' m s = refused-seen s λ T.
       sym (stands vars sc t i T l (stands-barred sc.q sc.lo (has sc.marks) i _ h h' ∙ ap (λ b. barred b (T (variable_at vars i))) m))
 
-  module _ {vars' : List ℕ} (R : Reads vars' top i r) (l : i < sc.n) where
-    is_that : (f : Found) → r.status ≡ Typed f → R.found ≡ f
-    is_that f q = typed_inj (sym R.is ∙ q)
+  module _ {vars' : List ℕ} {g : Found} (is : r ≡ Ok g) (R : Reads vars' i g) (l : i < sc.n) where
+    is_that : (f : Found) → r ≡ Ok f → g ≡ f
+    is_that f q = typed_inj (sym is ∙ q)
 
     read-seen : variable_at vars' i ≡ variable_at vars i → Waited 1 vars vars' → ((j : ℕ) → j < count_at → get_or vars j 0 ≡ get_or vars' j 0)
         → length vars ≡ length vars' → added vars vars' ≡ waits (dynamic_in sc) (marked_in sc) sc.n (var t i)
-        → ((T : Code → Ty) → good (T (variable_at vars i)) ≡ visible (term t) (binding_of vars sc t i T)) → Seen vars vars' sc top t i r
+        → ((T : Code → Ty) → good (T (variable_at vars i)) ≡ visible (term t) (binding_of vars sc t i T)) → Seen vars vars' sc t i r
     unfolding status_of
     read-seen v w b n x a = record {
-      same = R.same;
       there = λ f q. l;
       code = λ f q. subst (λ (f : Found). f.code ≡ variable_at vars i) (is_that f q) (R.code ∙ v);
       uses = λ f q. subst (λ (f : Found). Holds f.uses (alone i)) (is_that f q) R.uses;
-      answer = λ T. ap (status_of T) R.is ∙ ap (λ c. good (T c)) (R.code ∙ v) ∙ a T;
+      answer = λ T. ap (status_of T) is ∙ ap (λ c. good (T c)) (R.code ∙ v) ∙ a T;
       waits = λ f q. x;
       waited = w;
       below = b;
       lengths = n;
     }
 
-  module _ (R : Reads vars top i r) (l : i < sc.n) where
+  module _ {g : Found} (is : r ≡ Ok g) (R : Reads vars i g) (l : i < sc.n) where
     -- no naming
-    used-seen : (marked_in sc i && not (dynamic_in sc i)) ≡ false → ((T : Code → Ty) → good (T (variable_at vars i)) ≡ visible (term t) (binding_of vars sc t i T))
-        → Seen vars vars sc top t i r
-    used-seen e a = read-seen R l refl (waited_none 1 vars) (λ j l. refl) refl (added_none vars ∙ sym (waits_none sc t i e)) a
+    used-seen : (marked_in sc i && not (dynamic_in sc i)) ≡ false → ((T : Code → Ty)
+        → good (T (variable_at vars i)) ≡ visible (term t) (binding_of vars sc t i T))
+        → Seen vars vars sc t i r
+    used-seen e a = read-seen is R l refl (waited_none 1 vars) (λ j l. refl) refl (added_none vars ∙ sym (waits_none sc t i e)) a
 
-    pub seen-static : i < sc.q → Seen vars vars sc top t i r
+    seen-static : i < sc.q → Seen vars vars sc t i r
     unfolding visible
     seen-static h = used-seen (rw (lt-leb sc.q i h)) λ T. sym (stands vars sc t i T l (stands-static sc.q sc.lo (has sc.marks) i _ h))
 
-    pub seen-dynamic : sc.q ≤ i → sc.lo ≤ i → Seen vars vars sc top t i r
+    seen-dynamic : sc.q ≤ i → sc.lo ≤ i → Seen vars vars sc t i r
     unfolding visible
     seen-dynamic h h' = used-seen
         (ap (λ b. marked_in sc i && not b) (let z : dynamic_in sc i ≡ true = rw (le-leb sc.q i h, le-leb sc.lo i h', lt-ltb i sc.n l) in z)
         ∙ and-false (marked_in sc i))
         λ T. sym (stands vars sc t i T l (stands-dynamic sc.q sc.lo (has sc.marks) i _ h h'))
 
+    pub seen-free : (i < sc.q) ⊎ (sc.lo ≤ i) → Seen vars vars sc t i r
+    seen-free (inl h) = seen-static h
+    seen-free (inr h) = by (dec_lt i sc.q)
+      where
+        by : Dec (i < sc.q) → Seen vars vars sc t i r
+        by (yes k) = seen-static k
+        by (no k) = seen-dynamic (omega arith) h
+
   -- a naming that waits
-  pub seen-waits : {vars' : List ℕ} → Reads vars' top i r → Waits vars vars' i t → i < sc.n → sc.n ≤ max_variables → sc.q ≤ i → i < sc.lo
-      → has sc.marks i ≡ true → Seen vars vars' sc top t i r
+  pub seen-waits : {vars' : List ℕ} {g : Found} → r ≡ Ok g → Reads vars' i g → Waits vars vars' i t → i < sc.n → sc.n ≤ max_variables → sc.q ≤ i → i < sc.lo
+      → has sc.marks i ≡ true → Seen vars vars' sc t i r
   unfolding visible waits
-  seen-waits R W l few h h' m = read-seen R l
+  seen-waits is R W l few h h' m = read-seen is R l
       (sym (variable-same vars _ sc.n (λ j k. W.below j (omega arith)) i l)) W.waited W.below W.lengths
       (W.new ∙ sym (ap (λ b. cond b (record { variable = i; place = t } ∷ []) [])
       (ap₂ (λ a b. a && not b) (is_marked ∙ m) (let z : dynamic_in sc i ≡ false = rw (le-leb sc.q i h, lt-leb sc.lo i h') in z))))
@@ -140,8 +146,8 @@ module _ (vars : List ℕ) (sc : Scope) (t i : ℕ) {top : ℕ} {r : Out} where
 -- A variable more
 
 module _ {p types heap vars : List ℕ} {sc : Scope} {top : ℕ} (S : Scoped p types heap vars sc top) (c : Code) (K : Known (length types) top c)
-    (h : sc.n < max_variables) (F : Fitting c)
-    {at : ℕ} (a : at ≡ variable_bytes * sc.n) {vars' : List ℕ} (e : vars' ≡ put_code vars at c) where
+    (h : sc.n < max_variables)
+    {at : ℕ} (a : at ≡ variable_bytes * sc.n) {vars' : List ℕ} (e : vars' ≡ put_code vars at c) (b : code_at vars' at ≡ c) where
   put : vars' ≡ put_code vars (variable_bytes * sc.n) c
   put = e ∙ ap (λ at. put_code vars at c) a
 
@@ -158,7 +164,7 @@ module _ {p types heap vars : List ℕ} {sc : Scope} {top : ℕ} (S : Scoped p t
   older = variable-same vars vars' sc.n put-below
 
   newest : variable_at vars' sc.n ≡ c
-  newest = rw put (code_put vars (variable_bytes * sc.n) c F (omega (arith, S.slots)))
+  newest = ap (code_at vars') (sym a) ∙ b
 
   abbrev Δ : Context
   Δ = context_in p types heap vars sc

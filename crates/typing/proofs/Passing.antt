@@ -29,9 +29,9 @@ use package.Rattle.varsets.specs.declared.Uses.{Uses}
 use package.Rattle.varsets.specs.Sets.{Holds, has, nobody}
 use package.Rattle.typing.specs.Sizes.{terms_in, terms_in_all}
 use package.Rattle.typing.specs.Outcomes.{fault_of, done_of}
-use package.Rattle.typing.specs.Ready.{term_in, variable_at, context_in, typing_of, type_in, demanded, terms_from, types_from, Ready, Here, Kept, Inferred}
-use package.Rattle.typing.specs.Ready.{Bare, Calls, Argued}
-use package.Rattle.typing.specs.Asked.{Infers}
+use package.Rattle.typing.specs.Ready.{term_in, variable_at, context_in, typing_of, type_in, demanded, terms_from, types_from, Ready, Here, Inferred}
+use package.Rattle.typing.specs.Ready.{Calls, Argued}
+use package.Rattle.typing.specs.Asked.{ReadyAt, Infers}
 use package.Rattle.typing.proofs.Waiting.{added_none, added_then}
 use package.Rattle.typing.proofs.Contexts.{context-bar, must_use-barred}
 use package.Rattle.typing.proofs.Answers.{ends-refused, inferred, refusing, kept-still, kept_then}
@@ -44,11 +44,14 @@ use Rattle.typing.specs.declared.outcomes.Scope.{Scope}
 use Rattle.typing.specs.declared.outcomes.Found.{Found}
 use Rattle.typing.specs.declared.outcomes.Fault.{Fault}
 use Rattle.typing.specs.declared.outcomes.Fault.TheVariants.{Differ, Unscoped, Misused}
-use Rattle.typing.specs.declared.outcomes.Status.TheVariants.{Typed, Refused}
-use Rattle.typing.specs.declared.outcomes.Out.{Out}
+use Rattle.std.specs.Prelude.{Result, Ok, Err}
+use package.Rattle.typing.specs.Outcomes.{Out}
 
 ----------------------------------------------------------------
 -- Ancilla arguments
+
+ok-err : {w : Fault} → ◌≡◌ {A = Result (Unit {0}) Fault} (Ok tt) (Err w) → ⊥
+ok-err p = let z : ◌≡◌ {A = ℕ} 0 1 = cc in omega arith
 
 -- a refusal stands
 fault_and : {B : Type 0} {m : Checked (Unit {0})} (w : Fault) (k : Checked B) → m ≡ fault_of w → (m >> k) ≡ fault_of w
@@ -74,19 +77,15 @@ module _ {p types terms functions nodes heap vars : List ℕ} {sc : Scope} {top 
   abbrev args : Terms → List Ty → Checked (Unit {0})
   args ts cs = infer_arguments max_variables max_nodes (program_in p types terms functions) t Δ ts cs
 
-  pub args_end : {r : Out} → k ≡ count → Bare top r → Argued p types terms functions heap heap vars vars sc top t at h k count r
+  pub args_end : k ≡ count → Argued p types terms functions heap heap vars vars sc top top t at h k count (Ok tt)
   unfolding infer_arguments done_of waits_all
-  args_end {r} e B = record {
-    kept = subst (λ x. Kept (terms_in_all (terms_from p types terms at k count)) p types heap heap sc.n vars vars top x) (sym B.same)
-        (kept-still _ sc.n vars rd.scoped.sources);
-    answer = ap done_of B.is ∙ sym (ap₂ args (terms_none p types at k count terms e) (types_none p types h k count e));
-    waits = λ f q. added_none vars ∙ sym (ap (waits_in_all Δ) (terms_none p types at k count terms e));
+  args_end e = record {
+    kept = kept-still _ sc.n vars rd.scoped.sources;
+    answer = sym (ap₂ args (terms_none p types at k count terms e) (types_none p types h k count e));
+    waits = λ q. added_none vars ∙ sym (ap (waits_in_all Δ) (terms_none p types at k count terms e));
   }
 
-  module _ (more_left : ¬ (k ≡ count)) where
-    pub args-left : k < count
-    args-left = omega (arith, C.next)
-
+  module _ (args-left : k < count) where
     pub args_read : at + 8 + 2 * k ≤ length p
     args_read = omega (arith, (read-call rd.entries C.here).0, C.ancillae, args-left)
 
@@ -132,12 +131,12 @@ module _ {p types terms functions nodes heap vars : List ℕ} {sc : Scope} {top 
           ∙ ap (λ a. waits_in Δ (term_in p types terms a) ++ waits_in_all Δ (terms_from p types terms at (k + 1) count)) (sym q)
 
       module _ {heap₁ vars₁ : List ℕ} {o : Out} (d : Infers p types terms functions heap heap₁ vars vars₁ sc top a o) where
-        pub args-refused : {w : Fault} → o.status ≡ Refused w → Argued p types terms functions heap heap₁ vars vars₁ sc top t at h k count o
+        pub args-refused : {w : Fault} → o.status ≡ Err w → Argued p types terms functions heap heap₁ vars vars₁ sc top o.top t at h k count (Err w)
         unfolding done_of
         args-refused {w} x = record {
           kept = kept_more _ d.kept (omega (arith, size-args q));
-          answer = ap done_of x ∙ sym (rule-args ∙ bad-then w _ (refused d x));
-          waits = refusing x;
+          answer = sym (rule-args ∙ bad-then w _ (refused d x));
+          waits = λ z. absurd (ok-err (sym z));
         }
 
         pub args_later : Ready (terms_in_all (terms_from p types terms at (k + 1) count)) p types terms functions nodes heap₁ vars₁ sc o.top
@@ -153,7 +152,7 @@ module _ {p types terms functions nodes heap vars : List ℕ} {sc : Scope} {top 
           parameters = C.parameters;
         }
 
-        module _ {f : Found} (x : o.status ≡ Typed f) {j : ℕ} (z : j ≡ listed p h k) {want : Code} (w : want ≡ entry_code j) where
+        module _ {f : Found} (x : o.status ≡ Ok f) {j : ℕ} (z : j ≡ listed p h k) {want : Code} (w : want ≡ entry_code j) where
           pub args_want : Known (length types) o.top want
           args_want = subst (Known (length types) o.top) (sym w)
               (entry_known j (let l : listed p h k < length types =
@@ -164,26 +163,24 @@ module _ {p types terms functions nodes heap vars : List ℕ} {sc : Scope} {top 
             same_want = y ∙ ap (same_ty (tree_in p types heap₁ f.code))
                 (ap (tree_in p types heap₁) w ∙ tree-entry (map (type_at p) types) heap₁ (entry_code j) refl ∙ ap (type_of (map (type_at p) types)) z)
 
-            pub args_differ : {out : Out} → b ≡ false → out.status ≡ Refused (Differ t) → out.top ≡ o.top
-                → Argued p types terms functions heap heap₁ vars vars₁ sc top t at h k count out
+            pub args_differ : b ≡ false → Argued p types terms functions heap heap₁ vars vars₁ sc top o.top t at h k count (Err (Differ t))
             unfolding done_of fault_of
-            args_differ n s e = record {
-              kept = subst (λ v. Kept (terms_in_all (terms_from p types terms at k count)) p types heap heap₁ sc.n vars vars₁ top v) (sym e)
-                  (kept_more _ d.kept (omega (arith, size-args q)));
-              answer = ap done_of s ∙ sym (rule-args ∙ good-then _ (answered d x) ∙ need-no _ _ _ _ (sym same_want ∙ n));
-              waits = refusing s;
+            args_differ n = record {
+              kept = kept_more _ d.kept (omega (arith, size-args q));
+              answer = sym (rule-args ∙ good-then _ (answered d x) ∙ need-no _ _ _ _ (sym same_want ∙ n));
+              waits = λ z. absurd (ok-err (sym z));
             }
 
-            pub args_done : b ≡ true → {heap₂ vars₂ : List ℕ} {out : Out}
-                → Argued p types terms functions heap₁ heap₂ vars₁ vars₂ sc o.top t at h (k + 1) count out
-                → Argued p types terms functions heap heap₂ vars vars₂ sc top t at h k count out
+            pub args_done : b ≡ true → {heap₂ vars₂ : List ℕ} {top' : ℕ} {r : Result (Unit {0}) Fault}
+                → Argued p types terms functions heap₁ heap₂ vars₁ vars₂ sc o.top top' t at h (k + 1) count r
+                → Argued p types terms functions heap heap₂ vars vars₂ sc top top' t at h k count r
             args_done n G = record {
               kept = kept_then _ d.kept G.kept (omega arith) (omega (arith, size-args q));
               answer = G.answer
                   ∙ ap (λ Δ. infer_arguments max_variables max_nodes (program_in p types terms functions) t Δ (terms_from p types terms at (k + 1) count)
                   (types_from p types h (k + 1) count)) (context_later rd d.kept)
                   ∙ sym (rule-args ∙ good-then _ (answered d x) ∙ need_yes _ _ _ _ (sym same_want ∙ n));
-              waits = λ g y. added_then d.kept.waited G.kept.waited (d.waits f x) (G.waits g y)
+              waits = λ y. added_then d.kept.waited G.kept.waited (d.waits f x) (G.waits y)
                   ∙ ap (λ Δ₁. waits_in Δ A ++ waits_in_all Δ₁ (terms_from p types terms at (k + 1) count)) (context_later rd d.kept) ∙ sym waits-args;
             }
 
@@ -203,14 +200,21 @@ pub record CallParts (p types terms functions nodes heap vars : List ℕ) (sc : 
   pub ancillae : n ≡ call_ancillae (length_at p at)
   pub parameters : own ≡ parameters_at p h - 1
 
-module _ {p types terms functions nodes heap vars : List ℕ} {sc : Scope} {top t at : ℕ}
-    (rd : Ready (terms_in (term_in p types terms t)) p types terms functions nodes heap vars sc top) (H : Here p terms t at call_kind) where
-  pub call-function : {g : ℕ} → g ≡ first p at → g < length functions
-  call-function q = rw q (called-there rd.entries H)
+module _ {p types terms functions : List ℕ} {table : List (List ℕ)} {nodes heap vars : List ℕ} {sc : Scope} {top t at : ℕ}
+    (asked : ReadyAt p types terms functions table nodes heap vars sc top t at call_kind) where
+  pub call-function : {f g : ℕ} → g ≡ f → f ≡ first p at → g < length functions
+  call-function q q' = rw (q, q') (called-there asked.ready.entries asked.here)
 
-  pub call-parts : {g h n own : ℕ} → g ≡ first p at → h ≡ get_or functions g 0 → n ≡ call_ancillae (length_at p at) → own ≡ parameters_at p h - 1
-      → CallParts p types terms functions nodes heap vars sc top t at g h n own
-  call-parts qg qh qn qo = record { ready = rd; here = H; callee = qg; field = qh; ancillae = qn; parameters = qo }
+  pub call-parts : {f g h n m : ℕ} → g ≡ f → f ≡ first p at → h ≡ get_or functions g 0 → n ≡ call_ancillae (length_at p at) → m ≡ parameters_at p h
+      → CallParts p types terms functions nodes heap vars sc top t at g h n (m - 1)
+  call-parts q q' qh qn qm = record {
+    ready = asked.ready;
+    here = asked.here;
+    callee = q ∙ q';
+    field = qh;
+    ancillae = qn;
+    parameters = ap (λ m. m - 1) qm;
+  }
 
 module _ {p types terms functions nodes heap vars : List ℕ} {sc : Scope} {top t at g h n own : ℕ}
     (C : CallParts p types terms functions nodes heap vars sc top t at g h n own) where
@@ -233,7 +237,7 @@ module _ {p types terms functions nodes heap vars : List ℕ} {sc : Scope} {top 
   qo = C.parameters
 
   there : g < length functions
-  there = call-function rd H qg
+  there = rw qg (called-there rd.entries H)
 
   abbrev goal : Checked Ty
   goal = type_in p types terms functions heap vars sc t
@@ -303,10 +307,11 @@ module _ {p types terms functions nodes heap vars : List ℕ} {sc : Scope} {top 
         >> demanded (type_in p types terms functions heap vars sc e) (ys (listed p h own)) (ys (result_of p h)) t))
     unfolding shape
     rule_call = rule-shape ∙ ap₂ (λ i j. need (eqb i j) 6 (term t)
-        >> (infer_arguments max_variables max_nodes (program_in p types terms functions) t (bar Γ) (terms_from p types terms at 0 n) (types_from p types h 0 own)
+        >> (infer_arguments max_variables max_nodes (program_in p types terms functions) t (bar Γ) (terms_from p types terms at 0 n) (types_from p
+        types h 0 own)
         >> demanded (type_in p types terms functions heap vars sc e) (ys (listed p h own)) (ys (result_of p h)) t)) counted as_many
 
-  pub call_differ : {r : Out} → ¬ (n ≡ own) → r.status ≡ Refused (Differ t) → r.top ≡ top
+  pub call_differ : {r : Out} → ¬ (n ≡ own) → r.status ≡ Err (Differ t) → r.top ≡ top
       → Infers p types terms functions heap heap vars vars sc top t r
   unfolding fault_of
   call_differ x s z = stopped _ sc.n vars rd.scoped.sources s z (rule_call refl ∙ need-no _ _ _ _ (ne_eqb n own x))
@@ -364,43 +369,45 @@ module _ {p types terms functions nodes heap vars : List ℕ} {sc : Scope} {top 
         waiting = omega (arith, rd.waiting, size-call refl);
       }
 
-      module _ {heap₁ vars₁ : List ℕ} {o : Out}
-          (A : Argued p types terms functions heap heap₁ vars vars₁ (barred_scope sc u) top t at (get_or functions g 0) 0 n o) where
-        G : Argued p types terms functions heap heap₁ vars vars₁ (barred_scope sc u) top t at h 0 n o
-        G = subst (λ h. Argued p types terms functions heap heap₁ vars vars₁ (barred_scope sc u) top t at h 0 n o) (sym qh) A
+      module _ {heap₁ vars₁ : List ℕ} {top₁ : ℕ} {o : Result (Unit {0}) Fault}
+          (A : Argued p types terms functions heap heap₁ vars vars₁ (barred_scope sc u) top top₁ t at (get_or functions g 0) 0 n o) where
+        G : Argued p types terms functions heap heap₁ vars vars₁ (barred_scope sc u) top top₁ t at h 0 n o
+        G = subst (λ h. Argued p types terms functions heap heap₁ vars vars₁ (barred_scope sc u) top top₁ t at h 0 n o) (sym qh) A
 
         argued : infer_arguments max_variables max_nodes (program_in p types terms functions) t (bar Γ) (terms_from p types terms at 0 n)
-            (types_from p types h 0 own) ≡ done_of o.status
+            (types_from p types h 0 own) ≡ done_of o
         argued = sym (G.answer
             ∙ ap₂ (λ Δ m. infer_arguments max_variables max_nodes (program_in p types terms functions) t Δ (terms_from p types terms at 0 n)
             (types_from p types h 0 m)) barred-context same)
 
-        pub call-refused : {w : Fault} → o.status ≡ Refused w → Infers p types terms functions heap heap₁ vars vars₁ sc top t o
+        pub call-refused : {w : Fault} → o ≡ Err w
+            → Infers p types terms functions heap heap₁ vars vars₁ sc top t (record { status = Err w; top = top₁ })
         unfolding done_of
         call-refused {w} x = inferred (kept_more _ G.kept (omega (arith, size-call refl)))
-            (ends-refused x (rule_call refl ∙ need_yes _ _ _ _ (eq-eqb n own same) ∙ fault_and w _ (argued ∙ ap done_of x))) (refusing x)
+            (ends-refused refl (rule_call refl ∙ need_yes _ _ _ _ (eq-eqb n own same) ∙ fault_and w _ (argued ∙ ap done_of x))) (refusing refl)
 
-        module _ {f : Found} (x : o.status ≡ Typed f) {e : ℕ} (qe : e ≡ listed p at n) where
-          pub call-ready : Ready (terms_in (term_in p types terms e)) p types terms functions nodes heap₁ vars₁ sc o.top
+        module _ (x : o ≡ Ok tt) {e : ℕ} (qe : e ≡ listed p at n) where
+          pub call-ready : Ready (terms_in (term_in p types terms e)) p types terms functions nodes heap₁ vars₁ sc top₁
           call-ready = ready_later rd G.kept _ (omega (arith, size-call qe))
 
           pub call-part : (e < t) × (e < length terms)
           call-part = rw (qe ∙ ap (listed p at) qn) (part-dynamic rd.entries H)
 
           module _ {i j : ℕ} (qi : i ≡ listed p h n) (qj : j ≡ result_of p h) {want answer : Code} (w : want ≡ entry_code i) (w' : answer ≡ entry_code j) where
-            pub call_want : Known (length types) o.top want × Known (length types) o.top answer
+            pub call_want : Known (length types) top₁ want × Known (length types) top₁ answer
             call_want = (
-              subst (Known (length types) o.top) (sym w)
+              subst (Known (length types) top₁) (sym w)
                   (entry_known i (rw (qi ∙ ap (listed p h) (same ∙ qo)) (dynamic-there rd.entries (called-there rd.entries H) call-entry))),
-              subst (Known (length types) o.top) (sym w') (entry_known j (rw qj (result-there rd.entries (called-there rd.entries H) call-entry))),
+              subst (Known (length types) top₁) (sym w') (entry_known j (rw qj (result-there rd.entries (called-there rd.entries H) call-entry))),
             )
 
             entry-tree : {c : Code} {i m : ℕ} → c ≡ entry_code i → i ≡ m → tree_in p types heap₁ c ≡ ys m
             entry-tree {i = i} z y = ap (tree_in p types heap₁) z ∙ tree-entry (map (type_at p) types) heap₁ (entry_code i) refl ∙ ap ys y
 
             pub call_done : {heap₂ vars₂ : List ℕ} {out : Out}
-                → Inferred (terms_in (term_in p types terms e)) (term_in p types terms e) (waits_in (context_in p types heap₁ vars₁ sc) (term_in p types terms e))
-                p types heap₁ heap₂ sc.n vars₁ vars₂ o.top out
+                → Inferred (terms_in (term_in p types terms e)) (term_in p types terms e) (waits_in (context_in p types heap₁ vars₁ sc) (term_in p
+                types terms e))
+                p types heap₁ heap₂ sc.n vars₁ vars₂ top₁ out
                 (demanded (type_in p types terms functions heap₁ vars₁ sc e) (tree_in p types heap₁ want) (tree_in p types heap₁ answer) t)
                 → Infers p types terms functions heap heap₂ vars vars₂ sc top t out
             unfolding done_of
@@ -411,5 +418,5 @@ module _ {p types terms functions nodes heap vars : List ℕ} {sc : Scope} {top 
                 (ap (λ Δ. waits_in Δ (term_in p types terms e)) (context_later rd G.kept)))
                 (terms_in (term_in p types terms e)) {T = T} (λ i. ap (used_in i) (call-tree qe)) refl (omega arith)
                 (rule_call qe ∙ need_yes _ _ _ _ (eq-eqb n own same) ∙ good_and _ (argued ∙ ap done_of x))) _ G.kept
-                (G.waits f x ∙ ap (λ Δ. waits_in_all Δ (terms_from p types terms at 0 n)) barred-context) (omega arith) (omega (arith, size-call qe)))
+                (G.waits x ∙ ap (λ Δ. waits_in_all Δ (terms_from p types terms at 0 n)) barred-context) (omega arith) (omega (arith, size-call qe)))
                 refl (sym (ap (waits_in Γ) (call-tree qe) ∙ waits-call Γ t (first p at) (terms_from p types terms at 0 n) (term_in p types terms e)))

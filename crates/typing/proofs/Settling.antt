@@ -18,7 +18,8 @@ use package.Rattle.varsets.specs.Sets.{has}
 use package.Rattle.typing.specs.Waiting.{cell_at, no_variable, naming_in, namings, met, lower, told_by, marked_in, helps_in, settled_one, Settled, Settles}
 use package.Rattle.typing.proofs.Waiting.{get16-at, naming_same, namings-both}
 use Rattle.typing.specs.declared.outcomes.Scope.{Scope}
-use Rattle.typing.specs.declared.namings.Lowest.{Lowest}
+use Rattle.std.specs.Prelude.{Option, Some, None, min}
+use Rattle.std.proofs.Math.Nat.{min_comm, min-eq_left}
 
 ----------------------------------------------------------------
 -- Lists that come in two parts
@@ -45,7 +46,7 @@ late-both H M (x ∷ W) W' = ap (λ K. cond (M x.variable || H x.variable) K (x.
     go true = refl
     go false = refl
 
-lower-both : (l : Lowest) (K K' : List ℕ) → lower l (K ++ K') ≡ lower (lower l K) K'
+lower-both : (l : Option ℕ) (K K' : List ℕ) → lower l (K ++ K') ≡ lower (lower l K) K'
 unfolding lower
 lower-both l [] K' = refl
 lower-both l (k ∷ K) K' = lower-both (met l k) K K'
@@ -56,35 +57,29 @@ cons≢nil p = let z : ◌≡◌ {A = ℕ} 0 1 = cc in omega arith
 ----------------------------------------------------------------
 -- The lowest place
 
-lower-told : (k : ℕ) (K : List ℕ) → told_by (lower (record { some = true; place = k }) K) ≡ bad 8 (term (lowest k K))
+lower-told : (k : ℕ) (K : List ℕ) → told_by (lower (Some k) K) ≡ bad 8 (term (lowest k K))
 unfolding lower met told_by lowest
 lower-told k [] = refl
 lower-told k (j ∷ K) = lower-told (cond (leb j k) j k) K
 
 -- 8 at the lowest place, the let's own among them
-pub told_is : (s : Bool) (t : ℕ) (K : List ℕ) → told_by (lower (record { some = not s; place = t }) K) ≡ need_none (unless s t ++ K)
+pub told_is : (s : Bool) (t : ℕ) (K : List ℕ) → told_by (lower (cond s None (Some t)) K) ≡ need_none (unless s t ++ K)
 unfolding need_none unless lower met told_by
 told_is false t K = lower-told t K
 told_is true t K = go K
   where
-    go : (K : List ℕ) → told_by (lower (record { some = false; place = t }) K) ≡ need_none K
+    go : (K : List ℕ) → told_by (lower None K) ≡ need_none K
     go [] = refl
     go (k ∷ K) = lower-told k K
 
 -- one place more, as the code has it
-pub met-kept : (l : Lowest) (k : ℕ) → l.some ≡ true → l.place < k → l ≡ met l k
+pub met-least : (l k : ℕ) → Some (min l k) ≡ met (Some l) k
 unfolding met
-met-kept l k a b = ap₂ (λ (s : Bool) (p : ℕ). record { some = s; place = p }) a
-    (sym (ap (λ s. cond s (cond (leb k l.place) k l.place) k) a ∙ ap (λ b. cond b k l.place) (lt-leb k l.place b)))
-
-pub met-lower : (l : Lowest) (k : ℕ) → l.some ≡ true → k ≤ l.place → record { some = true; place = k } ≡ met l k
-unfolding met
-met-lower l k a b = ap (λ (p : ℕ). record { some = true; place = p })
-    (sym (ap (λ s. cond s (cond (leb k l.place) k l.place) k) a ∙ ap (λ b. cond b k l.place) (le-leb k l.place b)))
-
-pub met-first : (l : Lowest) (k : ℕ) → l.some ≡ false → record { some = true; place = k } ≡ met l k
-unfolding met
-met-first l k a = ap (λ (p : ℕ). record { some = true; place = p }) (sym (ap (λ s. cond s (cond (leb k l.place) k l.place) k) a))
+met-least l k = ap Some (by (dec_lt l k))
+  where
+    by : Dec (l < k) → min l k ≡ cond (leb k l) k l
+    by (yes h) = min-eq_left (omega arith) ∙ sym (ap (λ b. cond b k l) (lt-leb k l h))
+    by (no h) = min_comm l k ∙ min-eq_left (omega arith) ∙ sym (ap (λ b. cond b k l) (le-leb k l (omega arith)))
 
 ----------------------------------------------------------------
 -- One naming
@@ -119,7 +114,7 @@ module _ (sc : Scope) (u : Uses) where
   pub dynamic_helped : (v : ℕ) → v < sc.n → sc.q ≤ v → sc.lo ≤ v → has u v ≡ H v
   dynamic_helped v n h l = sym (rw (le-leb sc.q v h, le-leb sc.lo v l, lt-ltb v sc.n n))
 
-  module _ (vars : List ℕ) (j : ℕ) (l : Lowest) where
+  module _ (vars : List ℕ) (j : ℕ) (l : Option ℕ) where
     abbrev x : Naming
     x = naming_in vars j
 
@@ -194,7 +189,7 @@ module _ (sc : Scope) (u : Uses) where
           lowest = sym (ap (lower l) (late_of false not_dead ∙ ap (λ b. cond (b || H x.variable) [] (x.place ∷ [])) m));
         }
 
-        pub one-refused : M x.variable ≡ false → {r : Lowest} → r ≡ met l x.place → Settles sc u vars vars j (j + 1) l r
+        pub one-refused : M x.variable ≡ false → {r : Option ℕ} → r ≡ met l x.place → Settles sc u vars vars j (j + 1) l r
         unfolding late lower
         one-refused m e = record {
           settled = alone-settled same-one;
@@ -217,7 +212,7 @@ module _ (sc : Scope) (u : Uses) where
           pub read-waits : m ≡ true → Settles sc u vars vars j (j + 1) l l
           read-waits z = one-waits-on (λ z. live (is ∙ z)) (ap H (sym is) ∙ sym h ∙ y) (ap M (sym is) ∙ sym k ∙ z)
 
-          pub read-refused : m ≡ false → {place : ℕ} {r : Lowest} → place ≡ get16 vars (at + 2) → r ≡ met l place → Settles sc u vars vars j (j + 1) l r
+          pub read-refused : m ≡ false → {place : ℕ} {r : Option ℕ} → place ≡ get16 vars (at + 2) → r ≡ met l place → Settles sc u vars vars j (j + 1) l r
           read-refused z p e = one-refused (λ z. live (is ∙ z)) (ap H (sym is) ∙ sym h ∙ y) (ap M (sym is) ∙ sym k ∙ z)
               (e ∙ ap (met l) (p ∙ ap (λ at. get16 vars (at + 2)) qa))
 
@@ -225,18 +220,18 @@ module _ (sc : Scope) (u : Uses) where
 -- One after another
 
 module _ {sc : Scope} {u : Uses} where
-  pub settles_none : {vars : List ℕ} {from : ℕ} {l : Lowest} → Settles sc u vars vars from from l l
+  pub settles_none : {vars : List ℕ} {from : ℕ} {l : Option ℕ} → Settles sc u vars vars from from l l
   unfolding namings late lower
   settles_none {vars} {from} {l} = record {
     settled = record { within = λ j a b. absurd (omega arith); low = λ j a. refl; high = λ j a. refl; lengths = refl };
     lowest = sym (ap (λ n. lower l (late (helps_in sc u) (marked_in sc) (namings vars from n))) (let z : from - from ≡ 0 = omega arith in z));
   }
 
-  pub settles_to : {vars vars' : List ℕ} {from j to : ℕ} {l r : Lowest} → j ≡ to → Settles sc u vars vars' from j l r → Settles sc u vars vars' from to l r
+  pub settles_to : {vars vars' : List ℕ} {from j to : ℕ} {l r : Option ℕ} → j ≡ to → Settles sc u vars vars' from j l r → Settles sc u vars vars' from to l r
   settles_to {vars} {vars'} {from} {l = l} {r} e S = subst (λ j. Settles sc u vars vars' from j l r) e S
 
   -- what is settled, and one more
-  pub settles-then : {vars vars₁ vars₂ : List ℕ} {from j : ℕ} {l m r : Lowest} → from ≤ j → Settles sc u vars vars₁ from j l m
+  pub settles-then : {vars vars₁ vars₂ : List ℕ} {from j : ℕ} {l m r : Option ℕ} → from ≤ j → Settles sc u vars vars₁ from j l m
       → Settles sc u vars₁ vars₂ j (j + 1) m r → Settles sc u vars vars₂ from (j + 1) l r
   unfolding namings
   settles-then {vars} {vars₁} {vars₂} {from} {j} {l} {m} {r} h S N = record {

@@ -17,7 +17,8 @@ use package.Rattle.calls.specs.Answer.{accepted}
 use package.Rattle.calls.specs.Fields.{Layout}
 use package.Rattle.calls.specs.Entries.{type_of, TermEntry, n_var, n_unit, n_inl, n_inr, n_roll, n_unroll, n_pair, n_let, n_letp, n_case, n_call, term_trees}
 use package.Rattle.calls.specs.Entries.{term_tree, term_of, FunctionEntry, Entries}
-use package.Rattle.calls.specs.Named.{types_of_term, terms_of_term, functions_of_term, types_of_function, below, member, fresh, test_types, test_terms, test_functions}
+use package.Rattle.calls.specs.Named.{types_of_term, terms_of_term, functions_of_term, types_of_function, below, member, fresh, test_types}
+use package.Rattle.calls.specs.Named.{test_terms, test_functions}
 use package.Rattle.calls.specs.Named.{test_entries}
 use package.Rattle.calls.proofs.Answer.{accepted_inj, unbind, required}
 use package.Rattle.calls.proofs.Entries.{below-head, member-middle}

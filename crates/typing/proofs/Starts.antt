@@ -2,7 +2,7 @@
 use Prim.Native.Nat.{ℕ, zero, suc, ◌+◌, ◌-◌, ◌<◌, ◌≤◌}
 use native.Mathlib.Omega.{arith}
 use native.Mathlib.Decide.{dec_lt}
-use mathlib.Core.Path.{◌≡◌, refl, sym, ap, ap₂, ◌∙◌}
+use mathlib.Core.Path.{◌≡◌, refl, sym, ap, ap₂, ◌∙◌, subst}
 use mathlib.Core.Bool.{false}
 use mathlib.Core.Option.{some}
 use mathlib.Core.List.{List, [], ◌∷◌, ◌++◌, map}
@@ -107,7 +107,8 @@ pub none_bound : {xs types heap vars row : List ℕ} → scope_bytes ≤ length 
 none_bound l z = record { slots = l; known = λ i h. absurd (omega arith); tree = λ i h. absurd (omega arith); none_wait = z }
 
 -- the scope of ancillae alone, of which there are as many as `n` says
-pub ancillae-scoped : {xs types heap vars row : List ℕ} {n : ℕ} {u : Uses} → Sources xs types heap 0 → Bound xs types heap vars row n → n ≤ max_variables → Holds u nobody
+pub ancillae-scoped : {xs types heap vars row : List ℕ} {n : ℕ} {u : Uses} → Sources xs types heap 0 → Bound xs types heap vars row n
+    → n ≤ max_variables → Holds u nobody
     → Scoped xs types heap vars (record { q = n; lo = 0; n = n; owed = u; marks = u }) 0
 ancillae-scoped {n = n} {u = u} S B l h = record {
   sources = S;
@@ -121,16 +122,19 @@ ancillae-scoped {n = n} {u = u} S B l h = record {
 }
 
 -- one parameter more
-pub one-bound : {xs types heap vars vars' row : List ℕ} {n i : ℕ} {u : Uses} {c : Code} {r : Scope}
-    → Widened xs types heap vars vars' (record { q = n; lo = 0; n = n; owed = u; marks = u }) 0 c r → i ≡ n → c ≡ entry_code (get_or row i 0)
+pub one-bound : {xs types heap vars vars' row : List ℕ} {n i : ℕ} {u : Uses} {c : Code} {sc r : Scope}
+    → sc ≡ record { q = n; lo = 0; n = n; owed = u; marks = u } → Widened xs types heap vars vars' sc 0 c r → i ≡ n → c ≡ entry_code (get_or row i 0)
     → Bound xs types heap vars row n → Bound xs types heap vars' row (n + 1)
-one-bound {xs} {types} {heap} {vars} {vars'} {row} {n} {i} O s e B = record {
+one-bound {xs} {types} {heap} {vars} {vars'} {row} {n} {i} {u} {c} {sc} {r} z W s e B = record {
   slots = omega (arith, B.slots, O.lengths);
   known = λ j l. O.scoped.known j (omega (arith, O.one_more));
   tree = λ j l. go j l (dec_lt j n);
   none_wait = omega (arith, B.none_wait, O.waited.few);
 }
   where
+    O : Widened xs types heap vars vars' (record { q = n; lo = 0; n = n; owed = u; marks = u }) 0 c r
+    O = subst (λ sc. Widened xs types heap vars vars' sc 0 c r) z W
+
     go : (j : ℕ) → j < n + 1 → Dec (j < n) → type_at_var xs types heap vars' j ≡ type_of (map (type_at xs) types) (get_or row j 0)
     go j l (yes h) = older O j h ∙ B.tree j h
     go j l (no h) = let k : j ≡ n = omega arith in
@@ -139,13 +143,17 @@ one-bound {xs} {types} {heap} {vars} {vars'} {row} {n} {i} O s e B = record {
 -- the scope of all parameters
 pub all-bound : {xs types heap vars vars' row : List ℕ} {at n i : ℕ} {u : Uses} {c : Code} {r : Scope} → Signed xs types at row
     → Bound xs types heap vars row n → n ≡ parameters_at xs at - 1 → i ≡ n → c ≡ entry_code (get_or row i 0)
-    → Widened xs types heap vars vars' (record { q = n; lo = 0; n = n; owed = u; marks = u }) 0 c r → Started xs types heap vars' at r
-all-bound {xs} {types} {heap} {vars} {vars'} {row} {at} {n} {i} {u} {c} S B m s e O = record {
+    → {sc : Scope} → sc ≡ record { q = n; lo = 0; n = n; owed = u; marks = u } → Widened xs types heap vars vars' sc 0 c r
+    → Started xs types heap vars' at r
+all-bound {xs} {types} {heap} {vars} {vars'} {row} {at} {n} {i} {u} {c} {r} S B m s e {sc} z W = record {
   scoped = O.scoped;
   none_wait = omega (arith, B.none_wait, O.waited.few);
   context = O.context ∙ ap₂ (λ c Δ. dynamic false c ∷ Δ) last firsts;
 }
   where
+    O : Widened xs types heap vars vars' (record { q = n; lo = 0; n = n; owed = u; marks = u }) 0 c r
+    O = subst (λ sc. Widened xs types heap vars vars' sc 0 c r) z W
+
     ys : List TypeEntry
     ys = map (type_at xs) types
 

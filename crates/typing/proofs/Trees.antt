@@ -17,7 +17,8 @@ use package.Rattle.program.specs.Parts.{variable, first, second, third, listed, 
 use package.Rattle.program.proofs.Rooms.{term-kind, term-kind-room, var-room, two-room, case_room, call-sized, call-room}
 use package.Rattle.program.proofs.Shapes.{term-var, term-unit, term_inl, term_inr, term-pair, term_let, term_letp, term_case, term-call, term-roll, term_unroll}
 use package.Rattle.program.proofs.Lists.{below_last, below_each}
-use package.Rattle.program.specs.Kinds.{variable_kind, unit_kind, pair_kind, let_kind, let_pair_kind, call_kind, roll_kind, unroll_kind, inl_kind, inr_kind, case_kind}
+use package.Rattle.program.specs.Kinds.{variable_kind, unit_kind, pair_kind, let_kind, let_pair_kind, call_kind, roll_kind, unroll_kind, inl_kind}
+use package.Rattle.program.specs.Kinds.{inr_kind, case_kind}
 use package.Rattle.typing.specs.Ready.{term_in, Entered, Here}
 
 -- the kind that was read
@@ -29,10 +30,12 @@ injected : {p terms : List ℕ} {t at k : ℕ} → Here p terms t at k → 2 ≤
     → Here p terms t at (kind_at p at) × (inl_kind ≤ kind_at p at) × (kind_at p at ≤ inr_kind)
 injected h lo hi = (record { there = h.there; place = h.place; form = refl }, omega (arith, h.form), omega (arith, h.form))
 
-pub here_inl : {p terms : List ℕ} {t at : ℕ} → Here p terms t at inl_kind → Here p terms t at (kind_at p at) × (inl_kind ≤ kind_at p at) × (kind_at p at ≤ inr_kind)
+pub here_inl : {p terms : List ℕ} {t at : ℕ} → Here p terms t at inl_kind
+    → Here p terms t at (kind_at p at) × (inl_kind ≤ kind_at p at) × (kind_at p at ≤ inr_kind)
 here_inl h = injected h (omega arith) (omega arith)
 
-pub here_inr : {p terms : List ℕ} {t at : ℕ} → Here p terms t at inr_kind → Here p terms t at (kind_at p at) × (inl_kind ≤ kind_at p at) × (kind_at p at ≤ inr_kind)
+pub here_inr : {p terms : List ℕ} {t at : ℕ} → Here p terms t at inr_kind
+    → Here p terms t at (kind_at p at) × (inl_kind ≤ kind_at p at) × (kind_at p at ≤ inr_kind)
 here_inr h = injected h (omega arith) (omega arith)
 
 -- there is no twelfth kind

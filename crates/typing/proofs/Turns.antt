@@ -6,6 +6,7 @@ use mathlib.Core.Path.{◌≡◌, refl, sym, ap, ◌∙◌}
 use mathlib.Core.List.{List, ◌∷◌, map}
 use lib.ListN.{length, get_or, drop, length-map, get_or-map, drop_of_length-le}
 use lib.Seq.{drop-cons}
+use Rattle.std.specs.Prelude.{Err}
 use package.Rattle.rules.specs.Limits.{max_variables, max_nodes}
 use package.Rattle.rules.specs.Check.{Checked, good, bad, ◌>>◌, check_funs, check}
 use package.Rattle.calls.specs.Answer.{Answer, accepted, refused}
@@ -15,7 +16,10 @@ use package.Rattle.calls.specs.Load.{typed}
 use package.Rattle.calls.proofs.Answer.{refused≢accepted}
 use package.Rattle.program.specs.Places.{places_of}
 use package.Rattle.program.specs.Programs.{program_in, function_in}
-use package.Rattle.typing.specs.Checked.{Typeable, function_answer, typing_answer}
+use package.Rattle.typing.specs.declared.subject.Subject.{Subject}
+use package.Rattle.typing.specs.declared.functions.TypingError.{TypingError}
+use package.Rattle.typing.specs.declared.functions.TypingError.TheVariants.{Differ, Unscoped, Misused}
+use package.Rattle.typing.specs.Checked.{verdict_of, Typeable, function_answer, typing_answer}
 
 ----------------------------------------------------------------
 -- Answers one after another
@@ -38,6 +42,10 @@ abbrev pub from_function : List ℕ → List ℕ → List ℕ → List ℕ → �
 from_function xs types terms functions g =
     typed (places_of types terms functions) (check_funs max_variables max_nodes (program_in xs types terms functions) g
     (drop g (program_in xs types terms functions)))
+
+-- the same over what is typed
+abbrev pub from_by : Subject → ℕ → Answer (Unit {0})
+from_by x g = from_function x.entries.program.now x.entries.types.now x.entries.terms.now x.entries.functions.now g
 
 module _ (xs types terms functions : List ℕ) where
   pub from_first : typing_answer xs types terms functions ≡ from_function xs types terms functions 0
@@ -65,11 +73,17 @@ module _ (xs types terms functions : List ℕ) where
         ∙ after (places_of types terms functions) _ _ e
         ∙ ap (from_function xs types terms functions) (sym (add-one g))
 
-    pub function-refused : {n at : ℕ} → function_answer xs types terms functions g ≡ refused n at → from_function xs types terms functions g ≡ refused n at
+    function-refused : {n at : ℕ} → function_answer xs types terms functions g ≡ refused n at → from_function xs types terms functions g ≡ refused n at
     unfolding check_funs
     function-refused e =
         ap (λ hs. typed (places_of types terms functions) (check_funs max_variables max_nodes (program_in xs types terms functions) g hs)) (next g l)
         ∙ before (places_of types terms functions) _ _ e
+
+    pub function-failed : (e : TypingError) → verdict_of (Err e) ≡ function_answer xs types terms functions g
+        → verdict_of (Err e) ≡ from_function xs types terms functions g
+    function-failed (Differ at) h = sym (function-refused (sym h))
+    function-failed (Unscoped at) h = sym (function-refused (sym h))
+    function-failed (Misused at) h = sym (function-refused (sym h))
 
   pub from_last : (g : ℕ) → length functions ≤ g → from_function xs types terms functions g ≡ accepted tt
   unfolding check_funs typed

@@ -172,4 +172,5 @@ module _ (vars : List ℕ) (i t : ℕ) (slots : scope_bytes ≤ length vars) (ro
   pub put-waits : {k at w : ℕ} {v₁ v₂ v₃ : List ℕ} → k ≡ n → at ≡ cell_at k → w ≡ i → v₁ ≡ put16 vars at w → v₂ ≡ put16 v₁ (at + 2) t
       → v₃ ≡ put16 v₂ count_at (k + 1) → Waits vars v₃ i t
   put-waits a b c d e f = subst (λ v. Waits vars v i t) (sym (f
-      ∙ ap₂ (λ v k. put16 v count_at (k + 1)) (e ∙ ap₂ (λ v at. put16 v (at + 2) t) (d ∙ ap₂ (put16 vars) (b ∙ ap cell_at a) c) (b ∙ ap cell_at a)) a)) one-waits
+      ∙ ap₂ (λ v k. put16 v count_at (k + 1)) (e ∙ ap₂ (λ v at. put16 v (at + 2) t) (d ∙ ap₂ (put16 vars) (b ∙ ap cell_at a) c) (b
+      ∙ ap cell_at a)) a)) one-waits

@@ -1,6 +1,6 @@
 -- What each function that types a term asks for, one record a function, and what it ensures, one definition a function: over what a term
 -- asks and ensures (Ready), the table of signatures, and where the term stands.
-use Rattle.std.specs.Prelude.{ℕ, ◌+◌, ◌≤◌, ◌<◌, false, List, ◌∷◌, ◌++◌, length, get_or}
+use Rattle.std.specs.Prelude.{Result, ℕ, ◌+◌, ◌≤◌, ◌<◌, false, List, ◌∷◌, ◌++◌, length, get_or}
 use package.Rattle.rules.specs.Limits.{max_variables}
 use package.Rattle.rules.specs.Ty.{Ty}
 use package.Rattle.rules.specs.Term.{Term}
@@ -15,9 +15,10 @@ use package.Rattle.types.specs.Codes.{tree_in, Known}
 use package.Rattle.varsets.specs.declared.Uses.{Uses}
 use package.Rattle.typing.specs.Contexts.{UsedBy}
 use package.Rattle.typing.specs.Sizes.{terms_in, terms_in_all}
+use package.Rattle.typing.specs.Outcomes.{Out}
 use package.Rattle.typing.specs.Ready.{term_in, context_in, type_in, branches_of, terms_from, Ready, Here, Inferred, Calls, Argued}
 use Rattle.typing.specs.declared.outcomes.Scope.{Scope}
-use Rattle.typing.specs.declared.outcomes.Out.{Out}
+use Rattle.typing.specs.declared.outcomes.Fault.{Fault}
 
 ----------------------------------------------------------------
 -- Before
@@ -86,6 +87,7 @@ InfersBranches p types terms functions heap heap' vars vars' sc top t at c d r =
     (term_in p types terms (third p at)) (tree_in p types heap c) (tree_in p types heap d))
 
 -- the same for ancilla arguments of function `g`
-abbrev pub InfersArguments : (p types terms functions heap heap' vars vars' : List ℕ) → Scope → (top t at g k count : ℕ) → Out → Type 0
-InfersArguments p types terms functions heap heap' vars vars' sc top t at g k count r =
-    Argued p types terms functions heap heap' vars vars' sc top t at (get_or functions g 0) k count r
+abbrev pub InfersArguments : (p types terms functions heap heap' vars vars' : List ℕ) → Scope → (top top' t at g k count : ℕ)
+    → Result (Unit {0}) Fault → Type 0
+InfersArguments p types terms functions heap heap' vars vars' sc top top' t at g k count r =
+    Argued p types terms functions heap heap' vars vars' sc top top' t at (get_or functions g 0) k count r

@@ -1,6 +1,6 @@
 -- What typing the functions of a program answers in code (document 01, section 4, row Typing), against rules/specs/Check and
 -- calls/specs/Load: of all functions, of one, and of one whose body is typed.
-use Rattle.std.specs.Prelude.{ℕ, ◌≤◌, ◌<◌, ◌≡◌, Bool, true, false, ◌||◌, List, [], ◌∷◌, map, length, get_or, take}
+use Rattle.std.specs.Prelude.{Result, Ok, Err, ℕ, ◌≤◌, ◌<◌, ◌≡◌, Bool, true, false, ◌||◌, List, [], ◌∷◌, map, length, get_or, take}
 use package.Rattle.rules.specs.Limits.{max_variables, max_nodes}
 use package.Rattle.rules.specs.Ty.{Ty, is_unit, same_ty}
 use package.Rattle.rules.specs.Typing.{dynamic}
@@ -21,15 +21,15 @@ use package.Rattle.typing.specs.Waiting.{scope_bytes, count_in}
 use package.Rattle.typing.specs.declared.outcomes.Scope.{Scope}
 use package.Rattle.typing.specs.declared.outcomes.Fault.{Fault}
 use package.Rattle.typing.specs.declared.outcomes.Fault.TheVariants as fault
-use package.Rattle.typing.specs.declared.functions.Verdict.{Verdict}
-use package.Rattle.typing.specs.declared.functions.Verdict.TheVariants.{Typed, Differ, Unscoped, Misused}
+use package.Rattle.typing.specs.declared.functions.TypingError.{TypingError}
+use package.Rattle.typing.specs.declared.functions.TypingError.TheVariants.{Differ, Unscoped, Misused}
 
 -- the answer in the definitions' terms
-abbrev pub verdict_of : Verdict → Answer (Unit {0})
-verdict_of Typed = accepted tt
-verdict_of (Differ at) = refused 6 at
-verdict_of (Unscoped at) = refused 7 at
-verdict_of (Misused at) = refused 8 at
+abbrev pub verdict_of : Result (Unit {0}) TypingError → Answer (Unit {0})
+verdict_of (Ok done) = accepted tt
+verdict_of (Err (Differ at)) = refused 6 at
+verdict_of (Err (Unscoped at)) = refused 7 at
+verdict_of (Err (Misused at)) = refused 8 at
 
 -- A program whose fields are read and whose entries are tested, with the nodes of its types counted, and room for what typing keeps: as many
 -- product nodes as there can be terms, and the figures of type entries.

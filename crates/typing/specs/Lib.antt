@@ -13,3 +13,5 @@ pub mod Ready
 pub mod Asked
 -- what typing the functions answers
 pub mod Checked
+-- the last three over what the functions read together
+pub mod Subjects

@@ -1,6 +1,7 @@
 -- What typing a term in code asks for, and what it ensures. Types stand as codes: of product nodes in the bytes `heap`, of the variables in
 -- scope in the bytes `vars`, six bytes each, with the namings that wait behind them (Waiting). Laws: proofs/Answers.
-use Rattle.std.specs.Prelude.{ℕ, ◌+◌, ◌*◌, ◌-◌, ◌≤◌, ◌<◌, ◌≡◌, Bool, true, false, not, ◌&&◌, ◌||◌, List, ◌∷◌, map, length, get_or}
+use Rattle.std.specs.Prelude.{Option, Some, None, Result, Ok, Err, ℕ, ◌+◌, ◌*◌, ◌-◌, ◌≤◌, ◌<◌, ◌≡◌, Bool, true, false, cond, ◌&&◌, ◌||◌, List, ◌∷◌}
+use Rattle.std.specs.Prelude.{map, length, get_or}
 use package.Rattle.rules.specs.Limits.{max_terms, max_variables, max_nodes}
 use package.Rattle.rules.specs.Ty.{Ty, is_unit, same_ty}
 use package.Rattle.rules.specs.Term.{Term, Terms, var, look}
@@ -23,15 +24,11 @@ use package.Rattle.varsets.specs.Sets.{Holds, has, nobody, alone, ranged, joined
 use package.Rattle.typing.specs.Contexts.{context_at, UsedBy, Owed}
 use package.Rattle.typing.specs.Waiting.{variable_bytes, scope_bytes, count_at, count_in, added, Waited, dynamic_in, marked_in, Settles}
 use package.Rattle.typing.specs.Sizes.{terms_in_all}
-use package.Rattle.typing.specs.Outcomes.{status_of, meaning, done_of}
+use package.Rattle.typing.specs.Outcomes.{Status, Out, status_of, meaning, done_of}
 use Rattle.typing.specs.declared.outcomes.Scope.{Scope}
 use Rattle.typing.specs.declared.outcomes.Found.{Found}
-use Rattle.typing.specs.declared.namings.Lowest.{Lowest}
 use Rattle.typing.specs.declared.outcomes.Fault.{Fault}
 use Rattle.typing.specs.declared.outcomes.Fault.TheVariants.{Differ, Misused}
-use Rattle.typing.specs.declared.outcomes.Status.{Status}
-use Rattle.typing.specs.declared.outcomes.Status.TheVariants.{Typed, Refused}
-use Rattle.typing.specs.declared.outcomes.Out.{Out}
 
 ----------------------------------------------------------------
 -- What is typed
@@ -108,9 +105,9 @@ pub record Kept (size : ℕ) (p types heap heap' : List ℕ) (m : ℕ) (vars var
 pub record Inferred (size : ℕ) (T : Term) (W : List Naming) (p types heap heap' : List ℕ) (m : ℕ)
     (vars vars' : List ℕ) (top : ℕ) (out : Out) (res : Checked Ty) : Type 0 where
   pub kept : Kept size p types heap heap' m vars vars' top out.top
-  pub known : (f : Found) → out.status ≡ Typed f → Known (length types) out.top f.code
-  pub uses : (f : Found) → out.status ≡ Typed f → UsedBy f.uses T
-  pub waits : (f : Found) → out.status ≡ Typed f → added vars vars' ≡ W
+  pub known : (f : Found) → out.status ≡ Ok f → Known (length types) out.top f.code
+  pub uses : (f : Found) → out.status ≡ Ok f → UsedBy f.uses T
+  pub waits : (f : Found) → out.status ≡ Ok f → added vars vars' ≡ W
   pub answer : meaning p types heap' out ≡ res
 
 ----------------------------------------------------------------
@@ -151,45 +148,39 @@ pub record Calls (p terms functions : List ℕ) (t at g k count : ℕ) : Type 0 
   pub parameters : count + 1 ≡ parameters_at p (get_or functions g 0)
 
 -- The ancilla arguments are typed, or refused as the rules refuse them.
-pub record Argued (p types terms functions heap heap' vars vars' : List ℕ) (sc : Scope) (top t at h k count : ℕ) (out : Out) : Type 0 where
-  pub kept : Kept (terms_in_all (terms_from p types terms at k count)) p types heap heap' sc.n vars vars' top out.top
-  pub answer : done_of out.status
+pub record Argued (p types terms functions heap heap' vars vars' : List ℕ) (sc : Scope) (top top' t at h k count : ℕ)
+    (r : Result (Unit {0}) Fault) : Type 0 where
+  pub kept : Kept (terms_in_all (terms_from p types terms at k count)) p types heap heap' sc.n vars vars' top top'
+  pub answer : done_of r
       ≡ infer_arguments max_variables max_nodes (program_in p types terms functions) t (context_in p types heap vars sc)
       (terms_from p types terms at k count) (types_from p types h k count)
-  pub waits : (f : Found) → out.status ≡ Typed f
+  pub waits : r ≡ Ok tt
       → added vars vars' ≡ waits_in_all (context_in p types heap vars sc) (terms_from p types terms at k count)
 
 ----------------------------------------------------------------
 -- Single tests
 
 -- The code of variable `i`, which is the one use.
-pub record Reads (vars : List ℕ) (top i : ℕ) (r : Out) : Type 0 where
-  pub same : r.top ≡ top
-  pub found : Found
-  pub is : r.status ≡ Typed found
-  pub code : found.code ≡ variable_at vars i
-  pub uses : Holds found.uses (alone i)
+pub record Reads (vars : List ℕ) (i : ℕ) (r : Found) : Type 0 where
+  pub code : r.code ≡ variable_at vars i
+  pub uses : Holds r.uses (alone i)
 
 -- A variable's type, as the context has it (7 and 8), whatever the trees of codes are; a naming that a let could help waits.
-pub record Seen (vars vars' : List ℕ) (sc : Scope) (top t i : ℕ) (r : Out) : Type 0 where
-  pub same : r.top ≡ top
-  pub there : (f : Found) → r.status ≡ Typed f → i < sc.n
-  pub code : (f : Found) → r.status ≡ Typed f → f.code ≡ variable_at vars i
-  pub uses : (f : Found) → r.status ≡ Typed f → Holds f.uses (alone i)
+pub record Seen (vars vars' : List ℕ) (sc : Scope) (t i : ℕ) (r : Status) : Type 0 where
+  pub there : (f : Found) → r ≡ Ok f → i < sc.n
+  pub code : (f : Found) → r ≡ Ok f → f.code ≡ variable_at vars i
+  pub uses : (f : Found) → r ≡ Ok f → Holds f.uses (alone i)
   pub answer : (T : Code → Ty)
-      → status_of T r.status ≡ visible (term t) (look (context_at (λ j. T (variable_at vars j)) sc.q sc.lo (has sc.marks) sc.n) i)
-  pub waits : (f : Found) → r.status ≡ Typed f → added vars vars' ≡ waits (dynamic_in sc) (marked_in sc) sc.n (var t i)
+      → status_of T r ≡ visible (term t) (look (context_at (λ j. T (variable_at vars j)) sc.q sc.lo (has sc.marks) sc.n) i)
+  pub waits : (f : Found) → r ≡ Ok f → added vars vars' ≡ waits (dynamic_in sc) (marked_in sc) sc.n (var t i)
   pub waited : Waited 1 vars vars'
   pub below : (j : ℕ) → j < count_at → get_or vars j 0 ≡ get_or vars' j 0
   pub lengths : length vars ≡ length vars'
 
 -- The unit type, and no uses.
-pub record Bare (top : ℕ) (r : Out) : Type 0 where
-  pub same : r.top ≡ top
-  pub found : Found
-  pub is : r.status ≡ Typed found
-  pub code : found.code ≡ unit_code
-  pub uses : Holds found.uses nobody
+pub record Bare (r : Found) : Type 0 where
+  pub code : r.code ≡ unit_code
+  pub uses : Holds r.uses nobody
 
 -- A variable of the code's type is bound; `r` is the scope with it.
 pub record Widened (p types heap vars vars' : List ℕ) (sc : Scope) (top : ℕ) (c : Code) (r : Scope) : Type 0 where
@@ -208,27 +199,10 @@ pub record MarkedScope (sc r : Scope) : Type 0 where
   pub owed : r.owed ≡ sc.owed
   pub marks : Holds r.marks (joined (has sc.marks) (ranged sc.lo sc.n))
 
--- the outcome of a part, whose type is known
-pub record PartKnown (p types heap : List ℕ) (out : Out) : Type 0 where
-  pub sources : Sources p types heap out.top
-  pub known : (f : Found) → out.status ≡ Typed f → Known (length types) out.top f.code
-
--- A refusal stands; after a type, `Next` holds of it and of the new status.
-pub record After (out r : Out) (Next : Found → Status → Type 0) : Type 0 where
-  pub same : r.top ≡ out.top
-  pub refused : (w : Fault) → out.status ≡ Refused w → r.status ≡ Refused w
-  pub typed : (f : Found) → out.status ≡ Typed f → Next f r.status
-
--- the same after the body of a let: after a refusal the lent bytes are as they were
-pub record AfterBody (vars vars' : List ℕ) (out r : Out) (Next : Found → Status → Type 0) : Type 0 where
-  pub same : r.top ≡ out.top
-  pub refused : (w : Fault) → out.status ≡ Refused w → (r.status ≡ Refused w) × (vars' ≡ vars)
-  pub typed : (f : Found) → out.status ≡ Typed f → Next f r.status
-
 -- the type of `f`, and the uses of both
 pub record Joins (f : Found) (u : Uses) (s : Status) : Type 0 where
   pub found : Found
-  pub is : s ≡ Typed found
+  pub is : s ≡ Ok found
   pub code : found.code ≡ f.code
   pub uses : Holds found.uses (joined (has u) (has f.uses))
 
@@ -238,12 +212,12 @@ pub record Picks (b : Bool) (Yes No : Status → Type 0) (s : Status) : Type 0 w
   pub no : b ≡ false → No s
 
 abbrev pub Refuses : Fault → Status → Type 0
-Refuses w s = s ≡ Refused w
+Refuses w s = s ≡ Err w
 
 -- the type `answer`, if the part's type is `want` (6)
 abbrev pub Expects : (p types heap : List ℕ) → Code → Code → ℕ → Found → Status → Type 0
 Expects p types heap want answer t f s =
-    Picks (same_ty (tree_in p types heap f.code) (tree_in p types heap want)) (λ s. s ≡ Typed (record { code = answer; uses = f.uses })) (Refuses (Differ t)) s
+    Picks (same_ty (tree_in p types heap f.code) (tree_in p types heap want)) (λ s. s ≡ Ok (record { code = answer; uses = f.uses })) (Refuses (Differ t)) s
 
 -- variable `i`, of the code's type, is used or may go unused
 abbrev pub spent_by : (p types heap : List ℕ) → Code → ℕ → Uses → Bool
@@ -252,10 +226,10 @@ spent_by p types heap c i u = is_unit (tree_in p types heap c) || has u i
 -- The body of a let in scope `sc` is typed, with `f`; `b` tells whether it uses what the let binds. The namings `from` to `to` are settled, and
 -- the answer is the body's type, or 8 at the lowest place.
 pub record Closes (vars vars' : List ℕ) (sc : Scope) (u : Uses) (b : Bool) (t from to : ℕ) (f : Found) (s : Status) : Type 0 where
-  pub low : Lowest
-  pub settles : Settles sc f.uses vars vars' from to (record { some = not b; place = t }) low
-  pub yes : low.some ≡ false → Joins f u s
-  pub no : low.some ≡ true → s ≡ Refused (Misused low.place)
+  pub low : Option ℕ
+  pub settles : Settles sc f.uses vars vars' from to (cond b None (Some t)) low
+  pub yes : low ≡ None → Joins f u s
+  pub no : (k : ℕ) → low ≡ Some k → s ≡ Err (Misused k)
 
 abbrev pub ClosesOne : (p types heap vars vars' : List ℕ) → Scope → Uses → Code → (t from to : ℕ) → Found → Status → Type 0
 ClosesOne p types heap vars vars' sc u c t from to f s = Closes vars vars' sc u (spent_by p types heap c sc.n f.uses) t from to f s
@@ -267,27 +241,22 @@ ClosesTwo p types heap vars vars' sc u c d t from to f s =
 -- the type of `l`, and the uses of both and of `u`
 pub record Unites (l f : Found) (u : Uses) (s : Status) : Type 0 where
   pub found : Found
-  pub is : s ≡ Typed found
+  pub is : s ≡ Ok found
   pub code : found.code ≡ l.code
   pub uses : Holds found.uses (joined (has u) (joined (has l.uses) (has f.uses)))
 
 -- The left branch has the type and the uses `l`, the right branch those of `f`: the answer of case, whose scrutinee has the uses `u`.
 pub record Meets (p types heap : List ℕ) (l : Found) (u : Uses) (i : ℕ) (d : Code) (owed : Uses) (t : ℕ) (f : Found) (s : Status) : Type 0 where
-  pub differ : same_ty (tree_in p types heap l.code) (tree_in p types heap f.code) ≡ false → s ≡ Refused (Differ t)
+  pub differ : same_ty (tree_in p types heap l.code) (tree_in p types heap f.code) ≡ false → s ≡ Err (Differ t)
   pub unused : same_ty (tree_in p types heap l.code) (tree_in p types heap f.code) ≡ true → spent_by p types heap d i f.uses ≡ false
-      → s ≡ Refused (Misused t)
-  pub apart : same_ty (tree_in p types heap l.code) (tree_in p types heap f.code) ≡ true → (AgreeOn l.uses f.uses owed → ⊥) → s ≡ Refused (Misused t)
+      → s ≡ Err (Misused t)
+  pub apart : same_ty (tree_in p types heap l.code) (tree_in p types heap f.code) ≡ true → (AgreeOn l.uses f.uses owed → ⊥) → s ≡ Err (Misused t)
   pub both : same_ty (tree_in p types heap l.code) (tree_in p types heap f.code) ≡ true → spent_by p types heap d i f.uses ≡ true
       → AgreeOn l.uses f.uses owed → Unites l f u s
 
 -- The product of two types has a code, or is refused as too large (6).
 pub record Paired (p types heap heap' : List ℕ) (l f : Found) (top t : ℕ) (r : Out) : Type 0 where
-  pub pairing : Pairing
+  pub pairing : Option Pairing
   pub made : Made p types heap heap' top l.code f.code pairing
-  pub yes : pairing.fits ≡ true → (r.top ≡ pairing.top) × Joins (record { code = pairing.code; uses = f.uses }) l.uses r.status
-  pub no : pairing.fits ≡ false → (r.top ≡ top) × (r.status ≡ Refused (Differ t))
-
--- A pair, whose left part has the type and uses `l`, and whose right part the outcome `out`.
-pub record Pairs (p types heap heap' : List ℕ) (l : Found) (t : ℕ) (out r : Out) : Type 0 where
-  pub refused : (w : Fault) → out.status ≡ Refused w → (heap' ≡ heap) × (r ≡ out)
-  pub typed : (f : Found) → out.status ≡ Typed f → Paired p types heap heap' l f out.top t r
+  pub yes : (q : Pairing) → pairing ≡ Some q → (r.top ≡ q.top) × Joins (record { code = q.code; uses = f.uses }) l.uses r.status
+  pub no : pairing ≡ None → (r.top ≡ top) × (r.status ≡ Err (Differ t))

@@ -1,7 +1,7 @@
 -- Namings that wait (02, F-2; rules/specs/Check, `waits`) as the checker holds them: in a scope's lent bytes, behind the types of the
 -- variables. First stands how many there are, two bytes, then four bytes each: the variable, and the entry of the term that names it. A
 -- naming that a let helped stays in its place and has no variable. Laws: proofs/Waiting.
-use Rattle.std.specs.Prelude.{ℕ, zero, suc, ◌+◌, ◌*◌, ◌-◌, ◌≤◌, ◌<◌, ◌≡◌, true, ◌&&◌, cond, List, [], ◌∷◌, length, get_or, eqb, leb, ltb}
+use Rattle.std.specs.Prelude.{Option, Some, None, ℕ, zero, suc, ◌+◌, ◌*◌, ◌-◌, ◌≤◌, ◌<◌, ◌≡◌, ◌&&◌, cond, List, [], ◌∷◌, length, get_or, eqb, leb, ltb}
 use package.Rattle.octets.specs.Numbers.{get16}
 use package.Rattle.rules.specs.Limits.{max_terms, max_variables}
 use package.Rattle.rules.specs.Typing.{Vars}
@@ -9,7 +9,6 @@ use package.Rattle.rules.specs.Check.{Naming, term, Checked, good, bad, late}
 use package.Rattle.varsets.specs.declared.Uses.{Uses}
 use package.Rattle.varsets.specs.Sets.{has}
 use Rattle.typing.specs.declared.outcomes.Scope.{Scope}
-use Rattle.typing.specs.declared.namings.Lowest.{Lowest}
 
 ----------------------------------------------------------------
 -- Lent bytes
@@ -67,17 +66,19 @@ pub record Waits (vars vars' : List ℕ) (i t : ℕ) : Type 0 where
 -- The lowest of the places for 8
 
 -- one place more
-unfoldable pub met : Lowest → ℕ → Lowest
-met l k = record { some = true; place = cond l.some (cond (leb k l.place) k l.place) k }
+unfoldable pub met : Option ℕ → ℕ → Option ℕ
+met None k = Some k
+met (Some l) k = Some (cond (leb k l) k l)
 
 -- all of a list
-unfoldable pub lower : Lowest → List ℕ → Lowest
+unfoldable pub lower : Option ℕ → List ℕ → Option ℕ
 lower l [] = l
 lower l (k ∷ ks) = lower (met l k) ks
 
 -- 8 at the place, if there is one
-unfoldable pub told_by : Lowest → Checked (Unit {0})
-told_by l = cond l.some (bad 8 (term l.place)) (good tt)
+unfoldable pub told_by : Option ℕ → Checked (Unit {0})
+told_by None = good tt
+told_by (Some l) = bad 8 (term l)
 
 ----------------------------------------------------------------
 -- After the body of a let
@@ -105,7 +106,7 @@ pub record Settled (H : Vars) (vars vars' : List ℕ) (from to : ℕ) : Type 0 w
   pub lengths : length vars ≡ length vars'
 
 -- The let whose body uses `u`: its bound term's namings are settled, and of the places of those refused and `l` the lowest is told.
-pub record Settles (sc : Scope) (u : Uses) (vars vars' : List ℕ) (from to : ℕ) (l r : Lowest) : Type 0 where
+pub record Settles (sc : Scope) (u : Uses) (vars vars' : List ℕ) (from to : ℕ) (l r : Option ℕ) : Type 0 where
   pub settled : Settled (helps_in sc u) vars vars' from to
   pub lowest : r ≡ lower l (late (helps_in sc u) (marked_in sc) (namings vars from (to - from)))
 

@@ -1,122 +1,83 @@
 // Calls: the ancilla arguments, then the dynamic one. The types of the called function's parameters come from the table of signatures; how
 // many it has, and its result, which the table has no place for, from its field. Laws: proofs/Called, Passing.
 ghost use Rattle.program.specs.Kinds.{call_kind};
-ghost use Rattle.typing.specs.Asked.{ReadyAt, ReadyArguments, Infers, InfersArguments};
+ghost use Rattle.typing.specs.Subjects.{ReadyAtBy, ReadyArgumentsBy, InfersBy, InfersArgumentsBy};
 
-use crate::outcomes::{Out, Scope, Status};
-use crate::{infer, leaves, outcomes, tests};
-use rules::{MAX_FUNCTIONS, MAX_PARAMETERS};
+use crate::outcomes::{Fault, Found, Scope};
+use crate::subject::Subject;
+use crate::{infer, tests};
+use program::views;
+use types::basis::Basis;
+use types::codes::Code;
 use varsets::Uses;
 
-// The ancilla arguments of call t, of function g, from number k of `count` on. Their uses count for nothing: of a dynamic variable bound outside
-// they are namings.
-#[cycle(arms_choose_let_one_let_two_arguments_call_infer_inject_pair_roll_unroll)]
+// The ancilla arguments of call t, of function g, which are `count`. Their uses count for nothing: of a dynamic variable bound outside they are
+// namings.
+#[cycle(infer)]
 fn arguments(
-    p: &[u8],
-    types: &[u16],
-    terms: &[u16],
-    funs: &[u16],
-    sigs: &[[u16; MAX_PARAMETERS]; MAX_FUNCTIONS],
-    nodes: &[u16],
+    subject: &Subject<'_>,
     ws: &mut [u8],
+    top: &mut u32,
     vars: &mut [u8],
     sc: Scope,
-    top: u32,
     t: u16,
     at: usize,
     g: usize,
-    k: usize,
     count: usize,
-) -> Out
-    requires { ReadyArguments p.now types.now terms.now funs.now sigs.now nodes.now ws.old vars.old sc top t at g k count }
-    ensures { InfersArguments p.now types.now terms.now funs.now
-        ws.old ws.new vars.old vars.new sc top t at g k count result }
+) -> Result<(), Fault>
+    requires { ReadyArgumentsBy subject.now ws.old vars.old sc top.old t at g 0 count }
+    ensures { InfersArgumentsBy subject.now ws.old ws.new vars.old vars.new sc top.old top.new t at g 0 count result }
 {
-    if k == count {
-        return leaves::unit(top);
-    }
-    let part = program::views::listed(p, at, k);
-    let r = infer::infer(p, types, terms, funs, sigs, nodes, ws, vars, sc, top, part);
-    let status = r.status;
-    let m = r.top;
-    match status {
-        Status::Typed(f) => {
-            let want = types::codes::entry(sigs[g][k]);
-            if types::compare::same(p, types, ws, m, f.code, want) {
-                return arguments(
-                    p,
-                    types,
-                    terms,
-                    funs,
-                    sigs,
-                    nodes,
-                    ws,
-                    vars,
-                    sc,
-                    m,
-                    t,
-                    at,
-                    g,
-                    k + 1,
-                    count,
-                );
-            }
-            outcomes::differ(m, t)
+    let program = subject.entries.program;
+    let types = subject.entries.types;
+    for k in 0..count {
+        let part = views::listed(program, at, k);
+        let found = infer::infer(subject, ws, top, vars, sc, part)?;
+        let want = Code::Entry(subject.entries.table[g][k]);
+        let basis = Basis {
+            program,
+            types,
+            ws,
+            top: *top,
+        };
+        if !basis.same(found.code, want) {
+            return Err(Fault::Differ(u32::from(t)));
         }
-        Status::Refused(_) => r,
     }
+    Ok(())
 }
 
 // A call: ancilla arguments name no dynamic variable of the scope, but for what a let around could help; the dynamic argument may.
-#[cycle(arms_choose_let_one_let_two_arguments_call_infer_inject_pair_roll_unroll)]
+#[cycle(infer)]
 pub fn call(
-    p: &[u8],
-    types: &[u16],
-    terms: &[u16],
-    funs: &[u16],
-    sigs: &[[u16; MAX_PARAMETERS]; MAX_FUNCTIONS],
-    nodes: &[u16],
+    subject: &Subject<'_>,
     ws: &mut [u8],
+    top: &mut u32,
     vars: &mut [u8],
     sc: Scope,
-    top: u32,
     t: u16,
     at: usize,
-) -> Out
-    requires { ReadyAt p.now types.now terms.now funs.now sigs.now nodes.now ws.old vars.old sc top t at call_kind }
-    ensures { Infers p.now types.now terms.now funs.now
-        ws.old ws.new vars.old vars.new sc top t result }
+) -> Result<Found, Fault>
+    requires { ReadyAtBy subject.now ws.old vars.old sc top.old t at call_kind }
+    ensures { InfersBy subject.now ws.old ws.new vars.old vars.new sc top.old top.new t result }
 {
-    let g = octets::wide_index(program::views::first(p, at));
-    let h = octets::wide_index(funs[g]);
-    let count = program::views::call_ancillae(p, at);
-    let parameters = program::views::function_parameters(p, h);
-    let own = parameters - 1;
+    let program = subject.entries.program;
+    let g = usize::from(views::first(program, at));
+    let h = usize::from(subject.entries.functions[g]);
+    let count = views::call_ancillae(program, at);
+    let own = views::function_parameters(program, h) - 1;
     if count != own {
-        return outcomes::differ(top, t);
+        return Err(Fault::Differ(u32::from(t)));
     }
-    let nobody = Uses::none();
-    let marks = sc.marks;
     let barred = Scope {
-        q: sc.q,
         lo: sc.n,
-        n: sc.n,
-        owed: nobody,
-        marks,
+        owed: Uses::none(),
+        ..sc
     };
-    let r = arguments(
-        p, types, terms, funs, sigs, nodes, ws, vars, barred, top, t, at, g, 0, count,
-    );
-    let status = r.status;
-    let m = r.top;
-    match status {
-        Status::Typed(_) => {
-            let part = program::views::listed(p, at, count);
-            let want = types::codes::entry(sigs[g][count]);
-            let answer = types::codes::entry(program::views::function_result(p, h));
-            let r2 = infer::infer(p, types, terms, funs, sigs, nodes, ws, vars, sc, m, part);
-            tests::expect(p, types, ws, r2, want, answer, t)
-        }
-        Status::Refused(_) => r,
-    }
+    arguments(subject, ws, top, vars, barred, t, at, g, count)?;
+    let part = views::listed(program, at, count);
+    let want = Code::Entry(subject.entries.table[g][count]);
+    let answer = Code::Entry(views::function_result(program, h));
+    let found = infer::infer(subject, ws, top, vars, sc, part)?;
+    tests::expect(subject, ws, *top, found, want, answer, t)
 }

@@ -1,189 +1,163 @@
 // The type of a term, by the rules' `infer`. `infer` hands the term to the function of its kind; each of these types the term's parts in the
 // written order and makes each test as soon as the parts that it needs are typed. Laws of each kind: proofs/Steps, Pairing.
 ghost use Rattle.program.specs.Kinds.{pair_kind, roll_kind, unroll_kind};
-ghost use Rattle.typing.specs.Asked.{ReadyFor, ReadyAt, ReadyInject, Infers};
+ghost use Rattle.typing.specs.Subjects.{ReadyBy, ReadyAtBy, ReadyInjectBy, InfersBy};
 
-use crate::outcomes::{Out, Scope, Status};
-use crate::{binds, calling, leaves, outcomes, tests, variables};
-use program::kinds;
-use rules::{MAX_FUNCTIONS, MAX_PARAMETERS};
-use types::unfolding::Body;
+use crate::outcomes::{Fault, Found, Scope};
+use crate::subject::Subject;
+use crate::{binds, calling, leaves, tests, variables};
+use program::kinds::{INL, TermKind};
+use program::views;
+use types::basis::Basis;
+use types::codes::Code;
+use types::shapes::Shape;
 
-// Term t, in a scope.
-#[cycle(arms_choose_let_one_let_two_arguments_call_infer_inject_pair_roll_unroll)]
+// Term t, in a scope. `top` counts the product nodes made so far.
+#[cycle(infer)]
 pub fn infer(
-    p: &[u8],
-    types: &[u16],
-    terms: &[u16],
-    funs: &[u16],
-    sigs: &[[u16; MAX_PARAMETERS]; MAX_FUNCTIONS],
-    nodes: &[u16],
+    subject: &Subject<'_>,
     ws: &mut [u8],
+    top: &mut u32,
     vars: &mut [u8],
     sc: Scope,
-    top: u32,
     t: u16,
-) -> Out
-    requires { ReadyFor p.now types.now terms.now funs.now sigs.now nodes.now ws.old vars.old sc top t }
-    ensures { Infers p.now types.now terms.now funs.now
-        ws.old ws.new vars.old vars.new sc top t result }
+) -> Result<Found, Fault>
+    requires { ReadyBy subject.now ws.old vars.old sc top.old t }
+    ensures { InfersBy subject.now ws.old ws.new vars.old vars.new sc top.old top.new t result }
 {
-    let at = leaves::offset(terms, t);
-    let kind = program::views::kind(p, at);
-    match kind {
-        kinds::VARIABLE => variables::variable(vars, sc, top, t, program::views::variable(p, at)),
-        kinds::UNIT => leaves::unit(top),
-        kinds::INL => inject(p, types, terms, funs, sigs, nodes, ws, vars, sc, top, t, at),
-        kinds::INR => inject(p, types, terms, funs, sigs, nodes, ws, vars, sc, top, t, at),
-        kinds::PAIR => pair(p, types, terms, funs, sigs, nodes, ws, vars, sc, top, t, at),
-        kinds::LET => binds::let_one(p, types, terms, funs, sigs, nodes, ws, vars, sc, top, t, at),
-        kinds::LET_PAIR => binds::let_two(
-            p, types, terms, funs, sigs, nodes, ws, vars, sc, top, t, at,
-        ),
-        kinds::CASE => binds::choose(p, types, terms, funs, sigs, nodes, ws, vars, sc, top, t, at),
-        kinds::CALL => calling::call(p, types, terms, funs, sigs, nodes, ws, vars, sc, top, t, at),
-        kinds::ROLL => roll(p, types, terms, funs, sigs, nodes, ws, vars, sc, top, t, at),
-        kinds::UNROLL => unroll(p, types, terms, funs, sigs, nodes, ws, vars, sc, top, t, at),
-        // never met: there is no other kind
-        _ => outcomes::differ(top, t),
+    let program = subject.entries.program;
+    let at = leaves::offset(subject.entries.terms, t);
+    match views::term_kind(program, at) {
+        TermKind::Variable => variables::variable(vars, sc, t, views::variable(program, at)),
+        TermKind::Unit => Ok(leaves::unit()),
+        TermKind::Inl => inject(subject, ws, top, vars, sc, t, at),
+        TermKind::Inr => inject(subject, ws, top, vars, sc, t, at),
+        TermKind::Pair => pair(subject, ws, top, vars, sc, t, at),
+        TermKind::Let => binds::let_one(subject, ws, top, vars, sc, t, at),
+        TermKind::LetPair => binds::let_two(subject, ws, top, vars, sc, t, at),
+        TermKind::Case => binds::choose(subject, ws, top, vars, sc, t, at),
+        TermKind::Call => calling::call(subject, ws, top, vars, sc, t, at),
+        TermKind::Roll => roll(subject, ws, top, vars, sc, t, at),
+        TermKind::Unroll => unroll(subject, ws, top, vars, sc, t, at),
     }
 }
 
 // inl and inr, by their kind
-#[cycle(arms_choose_let_one_let_two_arguments_call_infer_inject_pair_roll_unroll)]
+#[cycle(infer)]
 fn inject(
-    p: &[u8],
-    types: &[u16],
-    terms: &[u16],
-    funs: &[u16],
-    sigs: &[[u16; MAX_PARAMETERS]; MAX_FUNCTIONS],
-    nodes: &[u16],
+    subject: &Subject<'_>,
     ws: &mut [u8],
+    top: &mut u32,
     vars: &mut [u8],
     sc: Scope,
-    top: u32,
     t: u16,
     at: usize,
-) -> Out
-    requires { ReadyInject p.now types.now terms.now funs.now sigs.now nodes.now ws.old vars.old sc top t at }
-    ensures { Infers p.now types.now terms.now funs.now
-        ws.old ws.new vars.old vars.new sc top t result }
+) -> Result<Found, Fault>
+    requires { ReadyInjectBy subject.now ws.old vars.old sc top.old t at }
+    ensures { InfersBy subject.now ws.old ws.new vars.old vars.new sc top.old top.new t result }
 {
-    let i = program::views::first(p, at);
-    let part = program::views::second(p, at);
-    let whole = types::codes::entry(i);
-    let s = types::shapes::shape_of(p, types, ws, top, whole);
-    let form = s.kind;
-    if form != kinds::SUM {
-        return outcomes::differ(top, t);
+    let program = subject.entries.program;
+    let types = subject.entries.types;
+    let whole = Code::Entry(views::first(program, at));
+    let part = views::second(program, at);
+    let basis = Basis {
+        program,
+        types,
+        ws,
+        top: *top,
+    };
+    let Shape::Sum(left, right) = basis.shape_of(whole) else {
+        return Err(Fault::Differ(u32::from(t)));
+    };
+    let found = infer(subject, ws, top, vars, sc, part)?;
+    if views::kind(program, at) == INL {
+        return tests::expect(subject, ws, *top, found, left, whole, t);
     }
-    let r = infer(p, types, terms, funs, sigs, nodes, ws, vars, sc, top, part);
-    let kind = program::views::kind(p, at);
-    if kind == kinds::INL {
-        return tests::expect(p, types, ws, r, s.first, whole, t);
-    }
-    tests::expect(p, types, ws, r, s.second, whole, t)
+    tests::expect(subject, ws, *top, found, right, whole, t)
 }
 
 // A pair: its type is the product.
-#[cycle(arms_choose_let_one_let_two_arguments_call_infer_inject_pair_roll_unroll)]
+#[cycle(infer)]
 fn pair(
-    p: &[u8],
-    types: &[u16],
-    terms: &[u16],
-    funs: &[u16],
-    sigs: &[[u16; MAX_PARAMETERS]; MAX_FUNCTIONS],
-    nodes: &[u16],
+    subject: &Subject<'_>,
     ws: &mut [u8],
+    top: &mut u32,
     vars: &mut [u8],
     sc: Scope,
-    top: u32,
     t: u16,
     at: usize,
-) -> Out
-    requires { ReadyAt p.now types.now terms.now funs.now sigs.now nodes.now ws.old vars.old sc top t at pair_kind }
-    ensures { Infers p.now types.now terms.now funs.now
-        ws.old ws.new vars.old vars.new sc top t result }
+) -> Result<Found, Fault>
+    requires { ReadyAtBy subject.now ws.old vars.old sc top.old t at pair_kind }
+    ensures { InfersBy subject.now ws.old ws.new vars.old vars.new sc top.old top.new t result }
 {
-    let left = program::views::first(p, at);
-    let right = program::views::second(p, at);
-    let r = infer(p, types, terms, funs, sigs, nodes, ws, vars, sc, top, left);
-    let status = r.status;
-    let m = r.top;
-    match status {
-        Status::Typed(f) => {
-            let r2 = infer(p, types, terms, funs, sigs, nodes, ws, vars, sc, m, right);
-            tests::pair_up(p, types, nodes, ws, r2, f, t)
-        }
-        Status::Refused(_) => r,
-    }
+    let left = views::first(subject.entries.program, at);
+    let right = views::second(subject.entries.program, at);
+    let one = infer(subject, ws, top, vars, sc, left)?;
+    let two = infer(subject, ws, top, vars, sc, right)?;
+    tests::pair_up(subject, ws, top, one, two, t)
 }
 
 // A roll: its part is of the unfolded type.
-#[cycle(arms_choose_let_one_let_two_arguments_call_infer_inject_pair_roll_unroll)]
+#[cycle(infer)]
 fn roll(
-    p: &[u8],
-    types: &[u16],
-    terms: &[u16],
-    funs: &[u16],
-    sigs: &[[u16; MAX_PARAMETERS]; MAX_FUNCTIONS],
-    nodes: &[u16],
+    subject: &Subject<'_>,
     ws: &mut [u8],
+    top: &mut u32,
     vars: &mut [u8],
     sc: Scope,
-    top: u32,
     t: u16,
     at: usize,
-) -> Out
-    requires { ReadyAt p.now types.now terms.now funs.now sigs.now nodes.now ws.old vars.old sc top t at roll_kind }
-    ensures { Infers p.now types.now terms.now funs.now
-        ws.old ws.new vars.old vars.new sc top t result }
+) -> Result<Found, Fault>
+    requires { ReadyAtBy subject.now ws.old vars.old sc top.old t at roll_kind }
+    ensures { InfersBy subject.now ws.old ws.new vars.old vars.new sc top.old top.new t result }
 {
-    let i = program::views::first(p, at);
-    let part = program::views::second(p, at);
-    let body = types::unfolding::unfolded(p, types, ws, i);
-    match body {
-        Body::Of(c) => {
-            let whole = types::codes::entry(i);
-            let r = infer(p, types, terms, funs, sigs, nodes, ws, vars, sc, top, part);
-            tests::expect(p, types, ws, r, c, whole, t)
-        }
-        Body::Other => outcomes::differ(top, t),
-    }
+    let program = subject.entries.program;
+    let types = subject.entries.types;
+    let i = views::first(program, at);
+    let part = views::second(program, at);
+    let basis = Basis {
+        program,
+        types,
+        ws,
+        top: *top,
+    };
+    let Some(body) = basis.unfolded(i) else {
+        return Err(Fault::Differ(u32::from(t)));
+    };
+    let found = infer(subject, ws, top, vars, sc, part)?;
+    tests::expect(subject, ws, *top, found, body, Code::Entry(i), t)
 }
 
 // An unroll: its type is the unfolded type.
-#[cycle(arms_choose_let_one_let_two_arguments_call_infer_inject_pair_roll_unroll)]
+#[cycle(infer)]
 fn unroll(
-    p: &[u8],
-    types: &[u16],
-    terms: &[u16],
-    funs: &[u16],
-    sigs: &[[u16; MAX_PARAMETERS]; MAX_FUNCTIONS],
-    nodes: &[u16],
+    subject: &Subject<'_>,
     ws: &mut [u8],
+    top: &mut u32,
     vars: &mut [u8],
     sc: Scope,
-    top: u32,
     t: u16,
     at: usize,
-) -> Out
-    requires { ReadyAt p.now types.now terms.now funs.now sigs.now nodes.now ws.old vars.old sc top t at unroll_kind }
-    ensures { Infers p.now types.now terms.now funs.now
-        ws.old ws.new vars.old vars.new sc top t result }
+) -> Result<Found, Fault>
+    requires { ReadyAtBy subject.now ws.old vars.old sc top.old t at unroll_kind }
+    ensures { InfersBy subject.now ws.old ws.new vars.old vars.new sc top.old top.new t result }
 {
-    let i = program::views::first(p, at);
-    let part = program::views::second(p, at);
-    let body = types::unfolding::unfolded(p, types, ws, i);
-    match body {
-        Body::Of(c) => {
-            if types::counting::within_limit(p, types, nodes, ws, top, c) {
-                let whole = types::codes::entry(i);
-                let r = infer(p, types, terms, funs, sigs, nodes, ws, vars, sc, top, part);
-                return tests::expect(p, types, ws, r, whole, c, t);
-            }
-            outcomes::differ(top, t)
-        }
-        Body::Other => outcomes::differ(top, t),
+    let program = subject.entries.program;
+    let types = subject.entries.types;
+    let i = views::first(program, at);
+    let part = views::second(program, at);
+    let basis = Basis {
+        program,
+        types,
+        ws,
+        top: *top,
+    };
+    let Some(body) = basis.unfolded(i) else {
+        return Err(Fault::Differ(u32::from(t)));
+    };
+    if !basis.within_limit(subject.nodes, body) {
+        return Err(Fault::Differ(u32::from(t)));
     }
+    let found = infer(subject, ws, top, vars, sc, part)?;
+    tests::expect(subject, ws, *top, found, Code::Entry(i), body, t)
 }

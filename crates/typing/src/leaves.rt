@@ -2,7 +2,8 @@
 ghost use Rattle.std.specs.Prelude.{◌≡◌, ◌<◌, length, get_or};
 ghost use Rattle.typing.specs.Ready.{Bare};
 
-use crate::outcomes::{Found, Out, Status};
+use crate::outcomes::Found;
+use types::codes::Code;
 use varsets::Uses;
 
 // Where the field of an entry starts.
@@ -10,18 +11,15 @@ pub fn offset(entries: &[u16], i: u16) -> usize
     requires { i < length entries.now }
     ensures { result ≡ get_or entries.now i 0 }
 {
-    let k = octets::wide_index(i);
-    octets::wide_index(entries[k])
+    usize::from(entries[usize::from(i)])
 }
 
 // Unit uses no variable.
-pub fn unit(top: u32) -> Out
-    ensures { Bare top result }
+pub fn unit() -> Found
+    ensures { Bare result }
 {
-    let code = types::codes::unit();
-    let uses = Uses::none();
-    Out {
-        status: Status::Typed(Found { code, uses }),
-        top,
+    Found {
+        code: Code::Unit,
+        uses: Uses::none(),
     }
 }

@@ -3,6 +3,7 @@
 #![tactic(auto)]
 
 pub mod outcomes; // outcomes.rt: what typing a term answers, and scopes
+pub mod subject; // subject.rt: what is typed
 pub mod namings; // namings.rt: namings that wait, in lent bytes
 pub mod variables; // variables.rt: the types of variables in lent bytes
 pub mod tests; // tests.rt: the tests after a part is typed

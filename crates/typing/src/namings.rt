@@ -1,7 +1,7 @@
 // Namings that wait (document 02, F-2): an ancilla argument inside the bound term of a let names a dynamic variable, and the let's body, typed
 // later, has to use it. They stand in a scope's lent bytes, behind the variables' types: only this module knows their layout. Each let
 // settles those of its bound term, which are the ones from the count before it on, up to the count after it. Laws: proofs/Waiting, Settling.
-ghost use Rattle.std.specs.Prelude.{◌≡◌, ◌+◌, ◌*◌, ◌≤◌, ◌<◌, length};
+ghost use Rattle.std.specs.Prelude.{Some, ◌≡◌, ◌+◌, ◌*◌, ◌≤◌, ◌<◌, length};
 ghost use Rattle.rules.specs.Limits.{max_terms, max_variables};
 ghost use Rattle.typing.specs.Waiting.{scope_bytes, cell_at, count_in, Waits, met, marked_in, helps_in, Settleable, Settles};
 
@@ -23,24 +23,13 @@ pub const SCOPE_BYTES: usize = NAMINGS_AT + NAMING_BYTES * MAX_TERMS;
 // The variable of a naming that a let helped.
 const NO_VARIABLE: u16 = 65535;
 
-// The lowest of the places for 8 that one point of typing has, if it has one.
-#[derive(Drop)]
-pub struct Lowest {
-    pub some: bool,
-    pub place: u16,
-}
-
-impl Lowest {
-    // One place more.
-    fn met(self, place: u16) -> Lowest
-        ensures { result ≡ met self place }
-    {
-        if self.some {
-            if self.place < place {
-                return self;
-            }
-        }
-        Lowest { some: true, place }
+// The lowest of the places for 8 that one point of typing has, if it has one, and one place more.
+fn lowest(low: Option<u16>, place: u16) -> u16
+    ensures { Some result ≡ met low place }
+{
+    match low {
+        Some(other) => other.min(place),
+        None => place,
     }
 }
 
@@ -49,7 +38,7 @@ fn cell(j: u16) -> usize
     requires { j < max_terms }
     ensures { (result ≡ cell_at j) × (result + 4 ≤ scope_bytes) }
 {
-    NAMINGS_AT + NAMING_BYTES * octets::wide_index(j)
+    NAMINGS_AT + NAMING_BYTES * usize::from(j)
 }
 
 // No naming waits: what stands behind the count is not looked at.
@@ -75,7 +64,7 @@ pub fn wait(vars: &mut [u8], i: u8, t: u16)
 {
     let n = count(vars);
     let at = cell(n);
-    octets::write16(vars, at, octets::wide16(i));
+    octets::write16(vars, at, u16::from(i));
     octets::write16(vars, at + 2, t);
     octets::write16(vars, COUNT_AT, n + 1);
 }
@@ -85,17 +74,11 @@ fn helped(sc: Scope, uses: Uses, variable: u16) -> bool
     requires { sc.n ≤ max_variables }
     ensures { result ≡ helps_in sc uses variable }
 {
-    if octets::wide16(sc.n) <= variable {
+    if u16::from(sc.n) <= variable {
         return false;
     }
     let i = variable as u8;
-    if i < sc.q {
-        return false;
-    }
-    if i < sc.lo {
-        return false;
-    }
-    uses.contains(i)
+    sc.q <= i && sc.lo <= i && uses.contains(i)
 }
 
 // Could a let further out help it?
@@ -103,19 +86,16 @@ fn waits_on(sc: Scope, variable: u16) -> bool
     requires { sc.n ≤ max_variables }
     ensures { result ≡ marked_in sc variable }
 {
-    if octets::wide16(sc.n) <= variable {
+    if u16::from(sc.n) <= variable {
         return false;
     }
     let i = variable as u8;
-    if i < sc.q {
-        return false;
-    }
-    let marks = sc.marks;
-    marks.contains(i)
+    sc.q <= i && sc.marks.contains(i)
 }
 
-// Naming j after the body of a let, which stands in the scope and uses `uses`: it is helped, waits on, or is refused.
-fn settle_one(vars: &mut [u8], sc: Scope, uses: Uses, j: u16, low: Lowest) -> Lowest
+// Naming j after the body of a let, which stands in the scope and uses `uses`: it is helped, waits on, or is refused. Of the places for 8
+// the lowest is kept.
+fn settle_one(vars: &mut [u8], sc: Scope, uses: Uses, j: u16, low: Option<u16>) -> Option<u16>
     requires { Settleable sc vars.old j (j + 1) }
     ensures { Settles sc uses vars.old vars.new j (j + 1) low result }
 {
@@ -131,19 +111,24 @@ fn settle_one(vars: &mut [u8], sc: Scope, uses: Uses, j: u16, low: Lowest) -> Lo
     if waits_on(sc, variable) {
         return low;
     }
-    low.met(octets::read16(vars, at + 2))
+    Some(lowest(low, octets::read16(vars, at + 2)))
 }
 
 // The namings from number `from` on and below `to`, which are those of the let's bound term.
-pub fn settle(vars: &mut [u8], sc: Scope, uses: Uses, from: u16, to: u16, low: Lowest) -> Lowest
+pub fn settle(
+    vars: &mut [u8],
+    sc: Scope,
+    uses: Uses,
+    from: u16,
+    to: u16,
+    low: Option<u16>,
+) -> Option<u16>
     requires { Settleable sc vars.old from to }
     ensures { Settles sc uses vars.old vars.new from to low result }
 {
-    let mut j = from;
-    let mut lowest = low;
-    while j < to {
-        lowest = settle_one(vars, sc, uses, j, lowest);
-        j += 1;
+    let mut low = low;
+    for j in from..to {
+        low = settle_one(vars, sc, uses, j, low);
     }
-    lowest
+    low
 }

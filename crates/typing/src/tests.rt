@@ -1,243 +1,215 @@
-// The tests that typing makes once a part is typed (section 4: "as soon as the parts it needs are typed"). A refusal of the part stands.
-ghost use Rattle.std.specs.Prelude.{◌≡◌, ◌&&◌, ◌+◌, ◌<◌, length};
+// The tests that typing makes once a part is typed (section 4: "as soon as the parts it needs are typed").
+ghost use Rattle.std.specs.Prelude.{Ok, ◌≡◌, ◌+◌, ◌<◌};
 ghost use Rattle.rules.specs.Limits.{max_variables, max_terms};
-ghost use Rattle.types.specs.Codes.{Room, Known, Sources};
-ghost use Rattle.types.specs.Counts.{Counted};
-ghost use Rattle.typing.specs.Ready.{PartKnown, After, AfterBody, Joins, Expects, spent_by, Closes, ClosesOne, ClosesTwo, Meets, Pairs};
+ghost use Rattle.types.specs.Codes.{Room};
+ghost use Rattle.typing.specs.Ready.{Joins, Closes};
+ghost use Rattle.typing.specs.Subjects.{SourcedBy, KnownBy, CountedBy, ExpectsBy, spent_in, ClosesOneBy, ClosesTwoBy, MeetsBy, PairedBy};
 ghost use Rattle.typing.specs.Waiting.{Settleable};
 
-use crate::namings::Lowest;
-use crate::outcomes::{Found, Out, Scope, Status};
-use crate::{namings, outcomes};
+use crate::namings;
+use crate::outcomes::{Fault, Found, Scope};
+use crate::subject::Subject;
+use types::basis::Basis;
 use types::codes::Code;
+use types::products;
 use varsets::Uses;
 
+// A let t in a scope, whose bound term is typed: what that uses, and its namings, numbers `from` to `to`.
+#[derive(Clone, Copy)]
+pub struct Let {
+    pub sc: Scope,
+    pub uses: Uses,
+    pub t: u16,
+    pub from: u16,
+    pub to: u16,
+}
+
 // The part has to have the type `want`; then the type is `answer`.
-pub fn expect(p: &[u8], types: &[u16], ws: &[u8], out: Out, want: Code, answer: Code, t: u16) -> Out
-    requires part_known { PartKnown p.now types.now ws.now out }
-    requires known { Known (length types.now) out.top want }
-    ensures { After out result (Expects p.now types.now ws.now want answer t) }
+pub fn expect(
+    subject: &Subject<'_>,
+    ws: &[u8],
+    top: u32,
+    part: Found,
+    want: Code,
+    answer: Code,
+    t: u16,
+) -> Result<Found, Fault>
+    requires sources { SourcedBy subject.now ws.now top }
+    requires known { KnownBy subject.now top part.code × KnownBy subject.now top want }
+    ensures { ExpectsBy subject.now ws.now want answer t part result }
 {
-    let status = out.status;
-    let top = out.top;
-    match status {
-        Status::Typed(f) => {
-            if types::compare::same(p, types, ws, top, f.code, want) {
-                let uses = f.uses;
-                return Out {
-                    status: Status::Typed(Found { code: answer, uses }),
-                    top,
-                };
-            }
-            outcomes::differ(top, t)
-        }
-        Status::Refused(_) => out,
+    let program = subject.entries.program;
+    let types = subject.entries.types;
+    let basis = Basis {
+        program,
+        types,
+        ws,
+        top,
+    };
+    if !basis.same(part.code, want) {
+        return Err(Fault::Differ(u32::from(t)));
     }
+    Ok(Found {
+        code: answer,
+        uses: part.uses,
+    })
 }
 
 // Is variable i, of the code's type, used? If its type is exactly unit, it need not be.
-pub fn spent(p: &[u8], types: &[u16], ws: &[u8], top: u32, c: Code, i: u8, uses: Uses) -> bool
-    requires sources { Sources p.now types.now ws.now top }
-    requires known { Known (length types.now) top c × (i < max_variables) }
-    ensures { result ≡ spent_by p.now types.now ws.now c i uses }
+pub fn spent(subject: &Subject<'_>, ws: &[u8], top: u32, c: Code, i: u8, uses: Uses) -> bool
+    requires sources { SourcedBy subject.now ws.now top }
+    requires known { KnownBy subject.now top c × (i < max_variables) }
+    ensures { result ≡ spent_in subject.now ws.now c i uses }
 {
-    if types::compare::is_unit(p, types, ws, top, c) {
-        return true;
-    }
-    uses.contains(i)
-}
-
-// The same of variable i and the next.
-fn spent_both(
-    p: &[u8],
-    types: &[u16],
-    ws: &[u8],
-    top: u32,
-    c: Code,
-    d: Code,
-    i: u8,
-    uses: Uses,
-) -> bool
-    requires sources { Sources p.now types.now ws.now top }
-    requires known { Known (length types.now) top c × Known (length types.now) top d × (i + 1 < max_variables) }
-    ensures { result ≡ (spent_by p.now types.now ws.now c i uses
-        && spent_by p.now types.now ws.now d (i + 1) uses) }
-{
-    if spent(p, types, ws, top, c, i, uses) {
-        return spent(p, types, ws, top, d, i + 1, uses);
-    }
-    false
+    let program = subject.entries.program;
+    let types = subject.entries.types;
+    let basis = Basis {
+        program,
+        types,
+        ws,
+        top,
+    };
+    basis.is_unit(c) || uses.contains(i)
 }
 
 // A type, with the uses of another part besides.
-fn join(top: u32, f: Found, uses: Uses) -> Out
-    ensures { (result.top ≡ top) × Joins f uses result.status }
+fn join(part: Found, uses: Uses) -> Found
+    ensures { Joins part uses (Ok result) }
 {
-    let code = f.code;
-    let all = uses.union(f.uses);
-    Out {
-        status: Status::Typed(Found { code, uses: all }),
-        top,
+    Found {
+        code: part.code,
+        uses: uses.union(part.uses),
     }
 }
 
-// The body of a let in a scope, once it is typed; `used` is whether it uses what the let binds. The namings of the bound term, numbers `from`
-// to `to`, are settled; of all places for 8, the let's own among them, the lowest stands.
-fn close(
-    vars: &mut [u8],
-    top: u32,
-    f: Found,
-    uses: Uses,
-    sc: Scope,
-    used: bool,
-    t: u16,
-    from: u16,
-    to: u16,
-) -> Out
-    requires { Settleable sc vars.old from to }
-    ensures { (result.top ≡ top) × Closes vars.old vars.new sc uses used t from to f result.status }
+// The body of a let, once it is typed; `used` is whether it uses what the let binds. The namings of the bound term are settled; of all places
+// for 8, the let's own among them, the lowest stands.
+fn close(vars: &mut [u8], outer: Let, body: Found, used: bool) -> Result<Found, Fault>
+    requires { Settleable outer.sc vars.old outer.from outer.to }
+    ensures { Closes vars.old vars.new outer.sc outer.uses used outer.t outer.from outer.to body result }
 {
-    let own = Lowest {
-        some: !used,
-        place: t,
-    };
-    let low = namings::settle(vars, sc, f.uses, from, to, own);
-    if low.some {
-        return outcomes::misused(top, low.place);
+    let own = if used { None } else { Some(outer.t) };
+    match namings::settle(vars, outer.sc, body.uses, outer.from, outer.to, own) {
+        Some(place) => Err(Fault::Misused(u32::from(place))),
+        None => Ok(join(body, outer.uses)),
     }
-    join(top, f, uses)
 }
 
-// The body of a let in a scope, which binds one variable of the code's type.
+// The body of a let, which binds one variable of the code's type.
 pub fn close_one(
-    p: &[u8],
-    types: &[u16],
+    subject: &Subject<'_>,
     ws: &[u8],
+    top: u32,
     vars: &mut [u8],
-    out: Out,
-    uses: Uses,
-    sc: Scope,
+    outer: Let,
     c: Code,
-    t: u16,
-    from: u16,
-    to: u16,
-) -> Out
-    requires part_known { PartKnown p.now types.now ws.now out }
-    requires known { Known (length types.now) out.top c × (sc.n < max_variables) }
-    requires settleable { Settleable sc vars.old from to }
-    ensures { AfterBody vars.old vars.new out result
-        (ClosesOne p.now types.now ws.now vars.old vars.new sc uses c t from to) }
+    body: Found,
+) -> Result<Found, Fault>
+    requires sources { SourcedBy subject.now ws.now top }
+    requires known { KnownBy subject.now top c × (outer.sc.n < max_variables) }
+    requires settleable { Settleable outer.sc vars.old outer.from outer.to }
+    ensures { ClosesOneBy subject.now ws.now vars.old vars.new outer c body result }
 {
-    let status = out.status;
-    let top = out.top;
-    match status {
-        Status::Typed(f) => {
-            let used = spent(p, types, ws, top, c, sc.n, f.uses);
-            close(vars, top, f, uses, sc, used, t, from, to)
-        }
-        Status::Refused(_) => out,
-    }
+    let used = spent(subject, ws, top, c, outer.sc.n, body.uses);
+    close(vars, outer, body, used)
 }
 
 // The same of two variables.
 pub fn close_two(
-    p: &[u8],
-    types: &[u16],
+    subject: &Subject<'_>,
     ws: &[u8],
+    top: u32,
     vars: &mut [u8],
-    out: Out,
-    uses: Uses,
-    sc: Scope,
+    outer: Let,
     c: Code,
     d: Code,
-    t: u16,
-    from: u16,
-    to: u16,
-) -> Out
-    requires part_known { PartKnown p.now types.now ws.now out }
-    requires known { Known (length types.now) out.top c × Known (length types.now) out.top d × (sc.n + 1 < max_variables) }
-    requires settleable { Settleable sc vars.old from to }
-    ensures { AfterBody vars.old vars.new out result
-        (ClosesTwo p.now types.now ws.now vars.old vars.new sc uses c d t from to) }
+    body: Found,
+) -> Result<Found, Fault>
+    requires sources { SourcedBy subject.now ws.now top }
+    requires known { KnownBy subject.now top c × KnownBy subject.now top d × (outer.sc.n + 1 < max_variables) }
+    requires settleable { Settleable outer.sc vars.old outer.from outer.to }
+    ensures { ClosesTwoBy subject.now ws.now vars.old vars.new outer c d body result }
 {
-    let status = out.status;
-    let top = out.top;
-    match status {
-        Status::Typed(f) => {
-            let used = spent_both(p, types, ws, top, c, d, sc.n, f.uses);
-            close(vars, top, f, uses, sc, used, t, from, to)
-        }
-        Status::Refused(_) => out,
-    }
+    let n = outer.sc.n;
+    let used = spent(subject, ws, top, c, n, body.uses)
+        && spent(subject, ws, top, d, n + 1, body.uses);
+    close(vars, outer, body, used)
 }
 
-// The right branch of a case, which binds variable i of the code's type, once the left branch has its type.
+// The branches of a case in a scope, once both are typed: the right one binds a variable of the code's type.
 pub fn meet(
-    p: &[u8],
-    types: &[u16],
+    subject: &Subject<'_>,
     ws: &[u8],
-    out: Out,
+    top: u32,
     left: Found,
+    right: Found,
     uses: Uses,
-    i: u8,
+    sc: Scope,
     d: Code,
-    owed: Uses,
     t: u16,
-) -> Out
-    requires part_known { PartKnown p.now types.now ws.now out }
-    requires known { Known (length types.now) out.top left.code × Known (length types.now) out.top d × (i < max_variables) }
-    ensures { After out result (Meets p.now types.now ws.now left uses i d owed t) }
+) -> Result<Found, Fault>
+    requires sources { SourcedBy subject.now ws.now top }
+    requires known { KnownBy subject.now top left.code × KnownBy subject.now top right.code × KnownBy subject.now top d × (sc.n < max_variables) }
+    ensures { MeetsBy subject.now ws.now left uses sc.n d sc.owed t right result }
 {
-    let status = out.status;
-    let top = out.top;
-    match status {
-        Status::Typed(f) => {
-            if types::compare::same(p, types, ws, top, left.code, f.code) {
-                if spent(p, types, ws, top, d, i, f.uses) {
-                    let mine = left.uses;
-                    if mine.agree_on(f.uses, owed) {
-                        let both = mine.union(f.uses);
-                        let code = left.code;
-                        return join(top, Found { code, uses: both }, uses);
-                    }
-                    return outcomes::misused(top, t);
-                }
-                return outcomes::misused(top, t);
-            }
-            outcomes::differ(top, t)
-        }
-        Status::Refused(_) => out,
+    let program = subject.entries.program;
+    let types = subject.entries.types;
+    let basis = Basis {
+        program,
+        types,
+        ws,
+        top,
+    };
+    if !basis.same(left.code, right.code) {
+        return Err(Fault::Differ(u32::from(t)));
     }
+    if !spent(subject, ws, top, d, sc.n, right.uses) {
+        return Err(Fault::Misused(u32::from(t)));
+    }
+    if !left.uses.agree_on(right.uses, sc.owed) {
+        return Err(Fault::Misused(u32::from(t)));
+    }
+    let both = Found {
+        code: left.code,
+        uses: left.uses.union(right.uses),
+    };
+    Ok(join(both, uses))
 }
 
-// The right part of a pair, once the left part has its type.
+// A pair, once both parts have their types.
 pub fn pair_up(
-    p: &[u8],
-    types: &[u16],
-    nodes: &[u16],
+    subject: &Subject<'_>,
     ws: &mut [u8],
-    out: Out,
+    top: &mut u32,
     left: Found,
+    right: Found,
     t: u16,
-) -> Out
-    requires part_known { PartKnown p.now types.now ws.old out }
-    requires known { Known (length types.now) out.top left.code }
-    requires counted { Counted p.now types.now nodes.now }
-    requires room { Room ws.old (out.top + 1) × (out.top < max_terms) }
-    ensures { Pairs p.now types.now ws.old ws.new left t out result }
+) -> Result<Found, Fault>
+    requires sources { SourcedBy subject.now ws.old top.old }
+    requires known { KnownBy subject.now top.old left.code × KnownBy subject.now top.old right.code }
+    requires counted { CountedBy subject.now }
+    requires room { Room ws.old (top.old + 1) × (top.old < max_terms) }
+    ensures { PairedBy subject.now ws.old ws.new left right top.old top.new t result }
 {
-    let status = out.status;
-    let top = out.top;
-    match status {
-        Status::Typed(f) => {
-            let made = types::products::product(p, types, nodes, ws, top, left.code, f.code);
-            if made.fits {
-                let code = made.code;
-                let uses = f.uses;
-                return join(made.top, Found { code, uses }, left.uses);
-            }
-            outcomes::differ(top, t)
+    let program = subject.entries.program;
+    let types = subject.entries.types;
+    match products::product(
+        program,
+        types,
+        subject.nodes,
+        ws,
+        *top,
+        left.code,
+        right.code,
+    ) {
+        Some(made) => {
+            *top = made.top;
+            let pair = Found {
+                code: made.code,
+                uses: right.uses,
+            };
+            Ok(join(pair, left.uses))
         }
-        Status::Refused(_) => out,
+        None => Err(Fault::Differ(u32::from(t))),
     }
 }

@@ -14,9 +14,16 @@ use package.Rattle.calls.specs.Entries.{TypeEntry, type_of}
 use package.Rattle.calls.specs.Tested.{closed}
 use package.Rattle.program.specs.Parts.{variable}
 use package.Rattle.program.specs.Kinds.{recursive_kind, type_variable_kind}
-use package.Rattle.valuebytes.specs.declared.typed.Scoped.{Scoped}
+use package.Rattle.valuebytes.specs.declared.walk.Scoped.{Scoped}
 use package.Rattle.valuebytes.specs.Scopes.{plugs, outward, scope_below, scope_of, type_under}
 use package.Rattle.valuebytes.specs.Typing.{entries_of, TypesRead, Cell, Cells, Bound, Resolved}
+use package.Rattle.program.specs.declared.kinds.TypeKind.{TypeKind}
+use package.Rattle.program.specs.declared.kinds.TypeKind.TheVariants as K
+use package.Rattle.program.specs.KindNumbers.{type_kind_number}
+use package.Rattle.program.proofs.Rooms.{tyvar-room}
+use package.Rattle.valuebytes.specs.Stack.{scoped, entries_in, cells_in}
+use package.Rattle.valuebytes.proofs.ByteKinds.{no-variable-kind}
+use package.Rattle.valuebytes.proofs.Columns.{scoped_at}
 use package.Rattle.valuebytes.proofs.Plugs.{plugs-var}
 use package.Rattle.valuebytes.proofs.Scopes.{Kept, kept_at, scope_kept, scope-unfolds}
 use package.Rattle.valuebytes.proofs.Trees.{tree-var}
@@ -98,17 +105,17 @@ module _ (xs os binders outer : List ℕ) (cell : ℕ) (C : Cells xs os binders 
 
 module _ (xs os binders outer : List ℕ) (t : Scoped) (T : TypesRead xs os) (C : Cells xs os binders outer t.cell)
     (B : Bound xs os binders outer t.cell t.cell t.entry) where
-  pub variable-within : (k : ℕ) → k ≡ variable xs (get_or os t.entry 0) → 4 ≤ kind_at xs (get_or os t.entry 0)
+  variable-within : (k : ℕ) → k ≡ variable xs (get_or os t.entry 0) → 4 ≤ kind_at xs (get_or os t.entry 0)
       → (n : ℕ) → n ≤ k → (0 < outward n outer t.cell) × (outward n outer t.cell ≤ t.cell)
   variable-within k e h n l =
       let deep : variable xs (get_or os t.entry 0) < length (scope_of (entries_of xs os) binders outer t.cell) = variable-deep xs os binders outer t.cell C t.entry T B h in
       outward-within xs os binders outer t.cell C k (omega arith) n l
 
-  pub resolved-shown : kind_at xs (get_or os t.entry 0) < type_variable_kind → Resolved xs os binders outer t t
+  resolved-shown : kind_at xs (get_or os t.entry 0) < type_variable_kind → Resolved xs os binders outer t t
   resolved-shown h = record { bound = B; shown = h; same = refl }
 
   -- the entry and the outer cell of the cell that a variable names
-  pub resolved : 4 ≤ kind_at xs (get_or os t.entry 0) → (e : ℕ) → e ≡ outward (variable xs (get_or os t.entry 0)) outer t.cell
+  resolved : 4 ≤ kind_at xs (get_or os t.entry 0) → (e : ℕ) → e ≡ outward (variable xs (get_or os t.entry 0)) outer t.cell
       → Resolved xs os binders outer t (record { entry = get_or binders e 0; cell = get_or outer e 0 })
   unfolding type_under
   resolved h e p =
@@ -217,3 +224,35 @@ module _ (xs os binders outer : List ℕ) (top cell entry : ℕ) (C : Cells xs o
       ∙ ap (λ i. type_under (entries_of xs os) binders⁺ outer⁺ cell i ∷ scope_of (entries_of xs os) binders⁺ outer⁺ cell) new_binder
       ∙ ap (λ c. c ∷ scope_of (entries_of xs os) binders⁺ outer⁺ cell) (under-kept xs os binders outer binders⁺ outer⁺ top C binders_push outer-push cell entry B.within)
       ∙ ap (λ σ. type_under (entries_of xs os) binders outer cell entry ∷ σ) (same-scope xs os binders outer binders⁺ outer⁺ top C binders_push outer-push cell B.within)
+
+----------------------------------------------------------------
+-- A variable, as the code finds it
+
+module _ (xs os : List ℕ) (cells : List Scoped) (t : Scoped) (T : TypesRead xs os) (C : Cells xs os (entries_in cells) (cells_in cells) t.cell)
+    (B : Bound xs os (entries_in cells) (cells_in cells) t.cell t.cell t.entry) where
+  abbrev place : ℕ
+  place = get_or os t.entry 0
+
+  module _ {at : ℕ} (there : at ≡ place) where
+    -- of a type that is no variable the entry stands for itself
+    pub variable-not : {kind : TypeKind} → type_kind_number kind ≡ kind_at xs at → (kind ≡ K.Variable → ⊥) → Resolved xs os (entries_in cells) (cells_in cells) t t
+    variable-not {kind} e n = resolved-shown xs os (entries_in cells) (cells_in cells) t T C B (omega (arith, no-variable-kind kind n, e ∙ ap (kind_at xs) there))
+
+    module _ {kind : TypeKind} (e : type_kind_number kind ≡ kind_at xs at) (is : kind ≡ K.Variable) where
+      shown : kind_at xs place ≡ type_variable_kind
+      shown = sym (ap type_kind_number (sym is) ∙ e ∙ ap (kind_at xs) there)
+
+      pub variable-room : at + 5 ≤ length xs
+      variable-room = omega (arith, there, tyvar-room (T.field _ B.known) shown)
+
+      module _ {k : ℕ} (number : k ≡ variable xs at) where
+        number⁺ : k ≡ variable xs place
+        number⁺ = number ∙ ap (variable xs) there
+
+        pub variable-cells : (n : ℕ) → n ≤ k → (0 < outward n (cells_in cells) t.cell) × (outward n (cells_in cells) t.cell ≤ t.cell)
+        variable-cells = variable-within xs os (entries_in cells) (cells_in cells) t T C B k number⁺ (omega (arith, shown))
+
+        pub variable-is : {c e : ℕ} → e ≡ c → c ≡ outward k (cells_in cells) t.cell → Resolved xs os (entries_in cells) (cells_in cells) t (get_or cells e (scoped 0 0))
+        variable-is {c} {e} f g =
+            subst (Resolved xs os (entries_in cells) (cells_in cells) t) (sym (scoped_at cells e))
+            (resolved xs os (entries_in cells) (cells_in cells) t T C B (omega (arith, shown)) e (f ∙ g ∙ ap (λ n. outward n (cells_in cells) t.cell) number⁺))

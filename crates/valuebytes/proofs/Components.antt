@@ -6,7 +6,7 @@ use mathlib.Core.Bool.{Bool, true, false, ◌&&◌}
 use mathlib.Core.Option.{some}
 use mathlib.Core.List.{List}
 use lib.ListN.{length, get_or}
-use package.Rattle.rules.specs.Val.{Val, unit, inl, inr, pair, roll, size, encode}
+use package.Rattle.rules.specs.Val.{Val, pair, size, encode}
 use package.Rattle.rules.specs.Ty.{Ty, prod, nodes}
 use package.Rattle.rules.proofs.Basics.{given, and_both}
 use package.Rattle.rules.proofs.Val.{length-encode}
@@ -31,18 +31,6 @@ value-has w c = ap (λ o. value_has o c) w.is
 -- a value has a byte
 pub filled : (s : List ℕ) → is_value s ≡ true → 0 < length s
 filled s e = given (whole s e) λ (v, w). omega (arith, ap length w.bytes, length-encode v, size-positive v)
-
--- what is no pair is of no product
-prod_none : (s : List ℕ) → is_value s ≡ true → (a b : Ty) → (get_or s 0 0 ≡ 3 → ⊥) → false ≡ value_has (value s) (prod a b)
-unfolding encode has_ty
-prod_none s e a b h = given (whole s e) λ (v, w). go v (λ q. h (ap (λ l. get_or l 0 0) w.bytes ∙ q)) ∙ sym (value-has w (prod a b))
-  where
-    go : (v : Val) → (get_or (encode v) 0 0 ≡ 3 → ⊥) → false ≡ has_ty v (prod a b)
-    go unit h = refl
-    go (inl v) h = refl
-    go (inr v) h = refl
-    go (pair v w) h = absurd (h refl)
-    go (roll v) h = refl
 
 ----------------------------------------------------------------
 -- A pair
@@ -96,9 +84,6 @@ module _ (xs os : List ℕ) (T : TypesRead xs os) (i : ℕ) (l : i < length os) 
       given (and_both _ _ c) λ (x, y). ((h, part-plain _ h (x, omega arith)), (h', part-plain _ h' (y, omega arith)))
 
   module _ (s : List ℕ) (e : is_value s ≡ true) where
-    pub no-pair : (get_or s 0 0 ≡ 3 → ⊥) → false ≡ value_has (value s) (type_of (entries_of xs os) i)
-    no-pair h = prod_none s e _ _ h ∙ ap (value_has (value s)) (sym (tree-prod xs os T i l k))
-
     module _ (t : get_or s 0 0 ≡ 3) {a b : ℕ} (first_is : a ≡ first xs (get_or os i 0)) (second_is : b ≡ second xs (get_or os i 0)) (u : List ℕ) (p : u ≡ part_of false (value s))
         {x : Bool} (A : x ≡ value_has (value u) (type_of (entries_of xs os) a)) where
       both : (r : List ℕ) → r ≡ part_of true (value s) → value_has (value s) (tree i) ≡ (x && value_has (value r) (tree b))

@@ -1,6 +1,8 @@
 -- Laws of reading values from bytes, by subject.
 -- counting the values still to come agrees with reading
 pub mod Pending
+-- the kinds of values by their first bytes
+pub mod ByteKinds
 -- where a value ends, found by counting
 pub mod Ends
 -- bytes that are one value; the parts of a pair
@@ -27,6 +29,8 @@ pub mod Walking
 pub mod Stack
 -- the parts of a value by the entry of its type
 pub mod Split
+-- entries under cells in one array, and their columns
+pub mod Columns
 -- one byte of a value: what is pending behind it
 pub mod Advancing
 -- the parts that a first byte promises, case by case

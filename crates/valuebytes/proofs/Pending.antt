@@ -1,5 +1,5 @@
 -- Counting the values still to come agrees with reading: the bytes of `n` values one after another are found without a tree.
-use Prim.Native.Nat.{ℕ, zero, suc, ◌+◌, ◌-◌, ◌≤◌, ◌<◌}
+use Prim.Native.Nat.{ℕ, zero, suc, ◌+◌, ◌≤◌, ◌<◌}
 use native.Mathlib.Omega.{arith}
 use native.Mathlib.Nat.{le_refl}
 use mathlib.Core.Path.{◌≡◌, refl, sym, ap, ◌∙◌}
@@ -133,30 +133,3 @@ bytes_some (suc (suc zero) ∷ xs) n e = more_some 1 (bytes_of xs (suc n)) e
 bytes_some (suc (suc (suc zero)) ∷ xs) n e = more_some 1 (bytes_of xs (suc (suc n))) e
 bytes_some (suc (suc (suc (suc zero))) ∷ xs) n e = more_some 1 (bytes_of xs (suc n)) e
 bytes_some (suc (suc (suc (suc (suc b)))) ∷ xs) n e = absurd (none≢some e)
-
-----------------------------------------------------------------
--- The count, as the code has it
-
-pub pending-unit : (k count : ℕ) → k ≡ 0 → count - 1 ≡ pending k (count - 1)
-unfolding pending
-pending-unit k count e = rw e
-
-pub pending-pair : (k count : ℕ) → k ≡ 3 → 0 < count → count + 1 ≡ pending k (count - 1)
-unfolding pending
-pending-pair k count e h = rw e (omega arith)
-
-pub pending-same : (k count : ℕ) → (k ≡ 0 → ⊥) → (k ≡ 3 → ⊥) → 0 < count → count ≡ pending k (count - 1)
-unfolding pending
-pending-same zero count a b h = absurd (a refl)
-pending-same (suc zero) count a b h = omega arith
-pending-same (suc (suc zero)) count a b h = omega arith
-pending-same (suc (suc (suc zero))) count a b h = absurd (b refl)
-pending-same (suc (suc (suc (suc k)))) count a b h = omega arith
-
-pub pending-most : (k n : ℕ) → pending k n ≤ suc (suc n)
-unfolding pending
-pending-most zero n = omega arith
-pending-most (suc zero) n = omega arith
-pending-most (suc (suc zero)) n = omega arith
-pending-most (suc (suc (suc zero))) n = omega arith
-pending-most (suc (suc (suc (suc k)))) n = omega arith

@@ -15,8 +15,9 @@ use package.Rattle.calls.specs.Tested.{closed}
 use package.Rattle.program.specs.Parts.{first, second}
 use package.Rattle.program.proofs.Shapes.{type-unit, type-prod, type-sum, type-mu}
 use package.Rattle.program.specs.Kinds.{unit_type_kind, product_kind, sum_kind, recursive_kind, type_variable_kind}
-use package.Rattle.valuebytes.specs.declared.typed.Parts.{Parts}
-use package.Rattle.valuebytes.specs.declared.typed.Parts.TheVariants as parts
+use Rattle.std.specs.Prelude.{Option as Found, Some, None}
+use package.Rattle.valuebytes.specs.declared.table.Parts.{Parts}
+use package.Rattle.valuebytes.specs.declared.table.Parts.TheVariants as parts
 use package.Rattle.valuebytes.specs.Scopes.{plugs, scope_of, type_under}
 use package.Rattle.valuebytes.specs.Typing.{entries_of, TypesRead, Cells, Bound}
 use package.Rattle.valuebytes.specs.Stack.{part_types, parts_of}
@@ -33,14 +34,14 @@ module _ (xs os binders outer : List ℕ) (top cell entry b : ℕ) where
   Part i = Bound xs os binders outer top cell i
 
   -- what the parts are, for a value of the type that the entry is under the cell
-  pub data Split : Parts → Type 0 where
-    nothing : part_types b (type_under (entries_of xs os) binders outer cell entry) ≡ some [] → Split parts.Nothing
-    single : {i : ℕ} → part_types b (type_under (entries_of xs os) binders outer cell entry) ≡ some (under i ∷ []) → Part i → Split (parts.One i)
-    double : {i j : ℕ} → part_types b (type_under (entries_of xs os) binders outer cell entry) ≡ some (under i ∷ under j ∷ []) → Part i → Part j → Split (parts.Two i j)
+  pub data Split : Found Parts → Type 0 where
+    nothing : part_types b (type_under (entries_of xs os) binders outer cell entry) ≡ some [] → Split (Some parts.Nothing)
+    single : {i : ℕ} → part_types b (type_under (entries_of xs os) binders outer cell entry) ≡ some (under i ∷ []) → Part i → Split (Some (parts.One i))
+    double : {i j : ℕ} → part_types b (type_under (entries_of xs os) binders outer cell entry) ≡ some (under i ∷ under j ∷ []) → Part i → Part j → Split (Some (parts.Two i j))
     body : {i : ℕ} → part_types b (type_under (entries_of xs os) binders outer cell entry)
         ≡ some (unfold_ty (plugs 1 (scope_of (entries_of xs os) binders outer cell) (type_of (entries_of xs os) i)) ∷ [])
-        → kind_at xs (get_or os entry 0) ≡ recursive_kind → i ≡ first xs (get_or os entry 0) → Split (parts.Body i)
-    wrong : part_types b (type_under (entries_of xs os) binders outer cell entry) ≡ none → Split parts.Wrong
+        → kind_at xs (get_or os entry 0) ≡ recursive_kind → i ≡ first xs (get_or os entry 0) → Split (Some (parts.Body i))
+    wrong : part_types b (type_under (entries_of xs os) binders outer cell entry) ≡ none → Split None
 
   module _ (T : TypesRead xs os) (B : Bound xs os binders outer top cell entry) where
     -- the type, from the tree of the entry
@@ -65,7 +66,7 @@ module _ (xs os binders outer : List ℕ) (top cell entry b : ℕ) where
     unfolding parts_of part_types
     by_unit k = subst (λ y. Split (parts_of b y)) (sym (type-unit xs (get_or os entry 0) k)) (go (eqb b 0) refl)
       where
-        go : (x : Bool) → eqb b 0 ≡ x → Split (cond x parts.Nothing parts.Wrong)
+        go : (x : Bool) → eqb b 0 ≡ x → Split (cond x (Some parts.Nothing) None)
         go true e = nothing (ap (part_types b) (under_one k) ∙ ap (λ x. cond x (some []) none) e)
         go false e = wrong (ap (part_types b) (under_one k) ∙ ap (λ x. cond x (some []) none) e)
 
@@ -86,7 +87,7 @@ module _ (xs os binders outer : List ℕ) (top cell entry b : ℕ) where
         types : (x : Bool) → eqb b 3 ≡ x → part_types b (under entry) ≡ cond x (some (under left ∷ under right ∷ [])) none
         types x e = ap (part_types b) (under-prod k) ∙ ap (λ x. cond x (some (under left ∷ under right ∷ [])) none) e
 
-        go : (x : Bool) → eqb b 3 ≡ x → Split (cond x (parts.Two left right) parts.Wrong)
+        go : (x : Bool) → eqb b 3 ≡ x → Split (cond x (Some (parts.Two left right)) None)
         go true e =
             given (prod-known xs os T entry B.known k) λ (l, r).
             given (and_both _ _ (closes-tree (tree-prod xs os T entry B.known k))) λ (x, y). double (types true e) (part left l x) (part right r y)
@@ -114,7 +115,7 @@ module _ (xs os binders outer : List ℕ) (top cell entry b : ℕ) where
             given (sum-known xs os T entry B.known k) λ (l, r).
             given (and_both _ _ (closes-tree (tree-sum xs os T entry B.known k))) λ (x, y). (part _ l x, part _ r y)
 
-        go : (x y : Bool) → eqb b 1 ≡ x → eqb b 2 ≡ y → Split (cond x (parts.One left) (cond y (parts.One right) parts.Wrong))
+        go : (x y : Bool) → eqb b 1 ≡ x → eqb b 2 ≡ y → Split (cond x (Some (parts.One left)) (cond y (Some (parts.One right)) None))
         go true y e f = single (types true y e f) sides.0
         go false true e f = single (types false true e f) sides.1
         go false false e f = wrong (types false false e f)
@@ -134,7 +135,7 @@ module _ (xs os binders outer : List ℕ) (top cell entry b : ℕ) where
         types : (x : Bool) → eqb b 4 ≡ x → part_types b (under entry) ≡ cond x (some (inner ∷ [])) none
         types x e = ap (part_types b) (under-mu k) ∙ ap (λ x. cond x (some (inner ∷ [])) none) e
 
-        go : (x : Bool) → eqb b 4 ≡ x → Split (cond x (parts.Body (first xs (get_or os entry 0))) parts.Wrong)
+        go : (x : Bool) → eqb b 4 ≡ x → Split (cond x (Some (parts.Body (first xs (get_or os entry 0)))) None)
         go true e = body (types true e) k refl
         go false e = wrong (types false e)
 

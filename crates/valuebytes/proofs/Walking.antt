@@ -1,5 +1,6 @@
 -- A walk over a value's bytes with a stack of pending types: what holds between two bytes, and what is known where the walk ends.
-use Prim.Native.Nat.{ℕ, suc, ◌+◌, ◌-◌, ◌≤◌, ◌<◌}
+use Prim.Native.Nat.{ℕ, suc, ◌+◌, ◌-◌, ◌^◌, ◌≤◌, ◌<◌}
+use native.Mathlib.Decide.{dec_lt}
 use native.Mathlib.Omega.{arith}
 use native.Mathlib.Nat.{le_refl}
 use native.Mathlib.Numerals.{add-one}
@@ -16,8 +17,7 @@ use package.Rattle.rules.specs.Val.{size}
 use package.Rattle.rules.specs.Ty.{Ty}
 use package.Rattle.rules.proofs.Basics.{none≢some}
 use package.Rattle.calls.specs.Values.{Read, got, malformed, has_ty}
-use package.Rattle.valuebytes.specs.declared.typed.Step.{Step}
-use package.Rattle.valuebytes.specs.declared.typed.Step.TheVariants as step
+use Rattle.std.specs.Prelude.{min, Option as Found, Some, None}
 use package.Rattle.valuebytes.specs.Ends.{first_of}
 use package.Rattle.valuebytes.specs.Scopes.{type_under}
 use package.Rattle.valuebytes.specs.Typing.{entries_of, next_if, next_of}
@@ -28,11 +28,11 @@ use package.Rattle.valuebytes.proofs.Turns.{bytes_for, bytes_none, bytes_on, byt
 ----------------------------------------------------------------
 -- The answer, by the number of bytes
 
-unfoldable next_by : ℕ → Option ℕ → Step
-next_by at none = step.Other
+unfoldable next_by : ℕ → Option ℕ → Found ℕ
+next_by at none = None
 next_by at (some m) = next_if (leb m max_value_bytes) (at + m)
 
-next-zero : (b : Bool) (n : ℕ) → next_if (b && false) n ≡ step.Other
+next-zero : (b : Bool) (n : ℕ) → next_if (b && false) n ≡ None
 next-zero true n = refl
 next-zero false n = refl
 
@@ -74,22 +74,22 @@ module _ (xs : List ℕ) (c : Ty) (at d : ℕ) (ys : List ℕ) (cs : List Ty) (s
   ends : next_of at (first_of xs) c ≡ next_by at (more d (bytes_for ys cs))
   ends = next_is at xs c ∙ ap (next_by at) (sym s)
 
-  stops : bytes_for ys cs ≡ none → step.Other ≡ next_of at (first_of xs) c
+  stops : bytes_for ys cs ≡ none → None ≡ next_of at (first_of xs) c
   unfolding next_by more
   stops e = sym (ends ∙ ap (λ x. next_by at (more d x)) e)
 
-  done : cs ≡ [] → d ≤ max_value_bytes → (i : ℕ) → at + d ≡ i → step.Next i ≡ next_of at (first_of xs) c
+  done : cs ≡ [] → d ≤ max_value_bytes → (i : ℕ) → at + d ≡ i → Some i ≡ next_of at (first_of xs) c
   unfolding next_by more
   done e h i p =
       sym (ends ∙ ap (λ cs. next_by at (more d (bytes_for ys cs))) e ∙ ap (λ x. next_by at (more d x)) (bytes_none ys)
-      ∙ ap (λ b. next_if b (at + (d + 0))) (le-leb (d + 0) max_value_bytes (omega arith)) ∙ ap step.Next (let n : at + (d + 0) ≡ i = omega arith in n))
+      ∙ ap (λ b. next_if b (at + (d + 0))) (le-leb (d + 0) max_value_bytes (omega arith)) ∙ ap Some (let n : at + (d + 0) ≡ i = omega arith in n))
 
 -- the value is longer than the limit
-long : (xs : List ℕ) (c : Ty) (at d : ℕ) (ys : List ℕ) (e : Ty) (es : List Ty) → Read-so xs c d ys (e ∷ es) → max_value_bytes ≤ d → step.Other ≡ next_of at (first_of xs) c
+long : (xs : List ℕ) (c : Ty) (at d : ℕ) (ys : List ℕ) (e : Ty) (es : List Ty) → Read-so xs c d ys (e ∷ es) → max_value_bytes ≤ d → None ≡ next_of at (first_of xs) c
 unfolding next_by more
 long xs c at d ys e es s h = go (bytes_for ys (e ∷ es)) refl
   where
-    go : (o : Option ℕ) → bytes_for ys (e ∷ es) ≡ o → step.Other ≡ next_of at (first_of xs) c
+    go : (o : Option ℕ) → bytes_for ys (e ∷ es) ≡ o → None ≡ next_of at (first_of xs) c
     go none q = stops xs c at d ys (e ∷ es) s q
     go (some m) q =
         sym (ends xs c at d ys (e ∷ es) s ∙ ap (λ x. next_by at (more d x)) q
@@ -124,7 +124,7 @@ walking_start l at S = record {
 
 module _ {xs os binders outer entries cells l : List ℕ} {at i top n : ℕ} {c : Ty} (W : Walking xs os binders outer entries cells l at i top n c) where
   -- no type is pending
-  pub walking_done : n ≤ 0 → step.Next i ≡ next_of at (first_of (drop at l)) c
+  pub walking_done : n ≤ 0 → Some i ≡ next_of at (first_of (drop at l)) c
   unfolding pending_types
   walking_done h = done (drop at l) c at (i - at) (drop i l) _ W.says (ap (pending_types (entries_of xs os) binders outer entries cells) (let z : n ≡ 0 = omega arith in z))
       W.near i (omega (arith, W.from))
@@ -137,21 +137,26 @@ module _ {xs os binders outer entries cells l : List ℕ} {at i top n : ℕ} {c 
     says⁺ : Read-so (drop at l) c (i - at) (drop i l) pending
     says⁺ = subst (λ n. Read-so (drop at l) c (i - at) (drop i l) (pending_types (entries_of xs os) binders outer entries cells n)) (let z : n ≡ suc (n - 1) = omega arith in z) W.says
 
-    pub stack⁺ : Stack xs os binders outer entries cells top (suc (n - 1))
-    stack⁺ = subst (Stack xs os binders outer entries cells top) (let z : n ≡ suc (n - 1) = omega arith in z) W.stack
-
     -- the bytes run out
-    pub walking_short : length l ≤ i → step.Other ≡ next_of at (first_of (drop at l)) c
+    walking_short : length l ≤ i → None ≡ next_of at (first_of (drop at l)) c
     unfolding pending_types bytes_for
     walking_short h = stops (drop at l) c at (i - at) (drop i l) pending says⁺ (ap (λ ys. bytes_for ys pending) (drop_of_length-le l h))
 
-    pub walking_long : max_value_bytes ≤ i - at → step.Other ≡ next_of at (first_of (drop at l)) c
+    walking_long : max_value_bytes ≤ i - at → None ≡ next_of at (first_of (drop at l)) c
     unfolding pending_types
     walking_long h = long (drop at l) c at (i - at) (drop i l) _ _ says⁺ h
 
+    -- the bytes that may be read end
+    pub walking_stopped : min (length l) (min (at + max_value_bytes) (2 ^ 64 - 1)) ≤ i → length l < 2 ^ 64 → None ≡ next_of at (first_of (drop at l)) c
+    walking_stopped h fits = go (dec_lt i (length l))
+      where
+        go : Dec (i < length l) → None ≡ next_of at (first_of (drop at l)) c
+        go (yes p) = walking_long (omega (arith, W.from))
+        go (no p) = walking_short (omega arith)
+
     -- a byte that begins no value of the type
     pub walking_off : i < length l → behind (get_or l i 0) (pending_types (entries_of xs os) binders outer entries cells (suc (n - 1))) ≡ none
-        → step.Other ≡ next_of at (first_of (drop at l)) c
+        → None ≡ next_of at (first_of (drop at l)) c
     unfolding pending_types
     walking_off h e = stops (drop at l) c at (i - at) (drop i l) pending says⁺
         (ap (λ ys. bytes_for ys pending) (drop-cons l i 0 h) ∙ bytes-off (get_or l i 0) (drop (suc i) l) _ _ e)

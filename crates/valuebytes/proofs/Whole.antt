@@ -15,8 +15,8 @@ use package.Rattle.rules.proofs.Val.{length-encode}
 use package.Rattle.rules.proofs.Typing.Tests.{leb_yes, leb-sound, bool_ext}
 use package.Rattle.calls.specs.Values.{Read, got, malformed, value}
 use package.Rattle.calls.proofs.Values.{read-encode, read-sound, value-encode, value-sound, size-positive, length-encode-append, got-value}
-use package.Rattle.valuebytes.specs.declared.scan.End.{End}
-use package.Rattle.valuebytes.specs.declared.scan.End.TheVariants as end
+use Rattle.std.specs.Prelude.{Option as Found, Some, None, IsSome}
+use Rattle.std.specs.Option.{option_eq}
 use package.Rattle.valuebytes.specs.Ends.{first_of, end_of, is_some, is_value, part_of}
 
 ----------------------------------------------------------------
@@ -30,27 +30,27 @@ pub record Ended (at e : ℕ) (r : Read) : Type 0 where
   pub small : fits value ≡ true
   pub place : e ≡ at + size value
 
-malformed≢at : {e : ℕ} → end.At e ≡ end.Malformed → ⊥
+malformed≢at : {e : ℕ} → Some e ≡ None → ⊥
 malformed≢at p = let z : ◌≡◌ {A = ℕ} 0 1 = cc in omega arith
 
-at_inj : {a b : ℕ} → end.At a ≡ end.At b → a ≡ b
+at_inj : {a b : ℕ} → Some a ≡ Some b → a ≡ b
 at_inj p = cc
 
-pub ended : (at e : ℕ) (r : Read) → end.At e ≡ end_of at r → Ended at e r
+pub ended : (at e : ℕ) (r : Read) → Some e ≡ end_of at r → Ended at e r
 unfolding end_of
 ended at e (got v xs) p = go (fits v) refl p
   where
-    go : (b : Bool) → fits v ≡ b → end.At e ≡ elim b as (λ b. End) [ true ↦ end.At (at + size v) | false ↦ end.Malformed ] → Ended at e (got v xs)
+    go : (b : Bool) → fits v ≡ b → Some e ≡ elim b as (λ b. Found ℕ) [ true ↦ Some (at + size v) | false ↦ None ] → Ended at e (got v xs)
     go true f p = record { value = v; rest = xs; is = refl; small = f; place = at_inj p }
     go false f p = absurd (malformed≢at p)
 ended at e malformed p = absurd (malformed≢at p)
 
 -- no end was found
-pub unended : (at : ℕ) (r : Read) {v : Val} {xs : List ℕ} → end.Malformed ≡ end_of at r → r ≡ got v xs → fits v ≡ true → ⊥
+pub unended : (at : ℕ) (r : Read) {v : Val} {xs : List ℕ} → None ≡ end_of at r → r ≡ got v xs → fits v ≡ true → ⊥
 unfolding end_of
 unended at r {v} {xs} p e f = malformed≢at (sym (p ∙ ap (end_of at) e ∙ found))
   where
-    found : end_of at (got v xs) ≡ end.At (at + size v)
+    found : end_of at (got v xs) ≡ Some (at + size v)
     found = rw (end_of, f)
 
 ----------------------------------------------------------------
@@ -87,7 +87,7 @@ length_none [] e = refl
 length_none (x ∷ xs) e = absurd (let z : suc (length xs) ≡ 0 = e in omega arith)
 
 -- an end was found: at the end of the bytes, if they are one value
-pub value-at : (xs : List ℕ) (e : ℕ) → end.At e ≡ end_of 0 (first_of xs) → eqb e (length xs) ≡ is_value xs
+value-at : (xs : List ℕ) (e : ℕ) → Some e ≡ end_of 0 (first_of xs) → eqb e (length xs) ≡ is_value xs
 value-at xs e p = given (ended 0 e (first_of xs) p) λ d.
     let long : length xs ≡ size d.value + length d.rest = ap length (read-sound (length xs) xs d.is) ∙ length-encode-append d.value d.rest in
     bool_ext (eqb e (length xs)) (is_value xs)
@@ -99,12 +99,16 @@ value-at xs e p = given (ended 0 e (first_of xs) p) λ d.
     let z : e ≡ length xs = omega (arith, same, d.place, ap length w.bytes, length-encode v) in
     subst (λ n. eqb e n ≡ true) z (eqb_yes e))
 
-pub value_not : (xs : List ℕ) → end.Malformed ≡ end_of 0 (first_of xs) → false ≡ is_value xs
+value_not : (xs : List ℕ) → None ≡ end_of 0 (first_of xs) → false ≡ is_value xs
 value_not xs p = go (is_value xs) refl
   where
     go : (b : Bool) → is_value xs ≡ b → false ≡ b
     go true q = given (whole xs q) λ (v, w). absurd (unended 0 (first_of xs) p (first_whole w) w.small)
     go false q = refl
+
+pub value-ends : (xs : List ℕ) (end : Found ℕ) → end ≡ end_of 0 (first_of xs) → option_eq eqb end (Some (length xs)) ≡ is_value xs
+value-ends xs None p = value_not xs p
+value-ends xs (Some e) p = value-at xs e p
 
 ----------------------------------------------------------------
 -- What is behind a value
@@ -148,27 +152,31 @@ smaller v w h f = leb_yes (size v) max_value_bytes (omega (arith, leb-sound (siz
 
 module _ (xs : List ℕ) (e : is_value xs ≡ true) (t : get_or xs 0 0 ≡ 3) where
   -- where the first component ends
-  pub pair_end : (m : ℕ) → end.At m ≡ end_of 1 (first_of (drop 1 xs)) → m ≡ 1 + size (is_pair xs e t).first
+  pub pair_end : (m : ℕ) → Some m ≡ end_of 1 (first_of (drop 1 xs)) → m ≡ 1 + size (is_pair xs e t).first
   unfolding encode
   pair_end m p = given (ended 1 m (first_of (drop 1 xs)) p) λ d. d.place ∙ ap (λ v. 1 + size v) (got-value (sym d.is ∙ first_component))
     where
       first_component : first_of (drop 1 xs) ≡ got (is_pair xs e t).first (encode (is_pair xs e t).second)
       first_component = first_is (drop 1 xs) (ap (drop 1) (is_pair xs e t).whole.bytes)
 
-  pub pair-unended : end.Malformed ≡ end_of 1 (first_of (drop 1 xs)) → ⊥
+  pair-unended : None ≡ end_of 1 (first_of (drop 1 xs)) → ⊥
   unfolding encode size
   pair-unended p =
       let P = is_pair xs e t in
       unended 1 (first_of (drop 1 xs)) p (first_is (drop 1 xs) {v = P.first} {ys = encode P.second} (ap (drop 1) P.whole.bytes))
       (smaller P.first (pair P.first P.second) (omega arith) P.whole.small)
 
-  pub pair-within : (m : ℕ) → end.At m ≡ end_of 1 (first_of (drop 1 xs)) → (1 ≤ m) × (m ≤ length xs)
+  pub pair-ends : (end : Found ℕ) → end ≡ end_of 1 (first_of (drop 1 xs)) → IsSome end
+  pair-ends None p = absurd (pair-unended p)
+  pair-ends (Some m) p = refl
+
+  pub pair-within : (m : ℕ) → Some m ≡ end_of 1 (first_of (drop 1 xs)) → (1 ≤ m) × (m ≤ length xs)
   unfolding size
   pair-within m p =
       let P = is_pair xs e t in
       (omega (arith, pair_end m p), omega (arith, pair_end m p, ap length P.whole.bytes, length-encode (pair P.first P.second)))
 
-  pub part-first : (m : ℕ) (b : Bool) → end.At m ≡ end_of 1 (first_of (drop 1 xs)) → b ≡ false → take (m - 1) (drop 1 xs) ≡ part_of b (value xs)
+  pub part-first : (m : ℕ) (b : Bool) → Some m ≡ end_of 1 (first_of (drop 1 xs)) → b ≡ false → take (m - 1) (drop 1 xs) ≡ part_of b (value xs)
   unfolding encode part_of
   part-first m b p f =
       let P = is_pair xs e t in
@@ -177,7 +185,7 @@ module _ (xs : List ℕ) (e : is_value xs ≡ true) (t : get_or xs 0 0 ≡ 3) wh
       ∙ take_at (encode P.first) (encode P.second) (size P.first) (length-encode P.first)
       ∙ sym (rw (f, P.whole.is))
 
-  pub part-second : (m : ℕ) (b : Bool) → end.At m ≡ end_of 1 (first_of (drop 1 xs)) → b ≡ true
+  pub part-second : (m : ℕ) (b : Bool) → Some m ≡ end_of 1 (first_of (drop 1 xs)) → b ≡ true
       → take (length xs - m) (drop m xs) ≡ part_of b (value xs)
   unfolding encode part_of
   part-second m b p f =

@@ -1,14 +1,10 @@
 -- What reading bytes as values answers, of what the reader of the calls gives. Laws: proofs/Pending, proofs/Ends.
-use Rattle.std.specs.Prelude.{ℕ, zero, suc, ◌+◌, Bool, true, false, List, [], length}
+use Rattle.std.specs.Prelude.{ℕ, zero, suc, ◌+◌, Bool, true, false, List, [], length, Option as Found, Some, None}
 use Rattle.std.proofs.Math.Option.{Option, none, some}
 use package.Rattle.rules.specs.Limits.{fits}
 use package.Rattle.rules.specs.Val.{Val, unit, inl, inr, pair, roll, size, encode}
 use package.Rattle.calls.specs.Values.{Read, got, malformed, read, value, ancillae}
 use package.Rattle.calls.specs.Book.{or_unit, or_none}
-use package.Rattle.valuebytes.specs.declared.scan.End.{End}
-use package.Rattle.valuebytes.specs.declared.scan.End.TheVariants as end
-use package.Rattle.valuebytes.specs.declared.scan.Counted.{Counted}
-use package.Rattle.valuebytes.specs.declared.scan.Counted.TheVariants as count
 
 ----------------------------------------------------------------
 -- Where a value ends
@@ -26,9 +22,9 @@ abbrev pub first_of : List ℕ → Read
 first_of xs = read (length xs) xs
 
 -- where what was read from place `at` ends, if it is within the limit on values
-unfoldable pub end_of : ℕ → Read → End
-end_of at (got v xs) = elim (fits v) [ true ↦ end.At (at + size v) | false ↦ end.Malformed ]
-end_of at malformed = end.Malformed
+unfoldable pub end_of : ℕ → Read → Found ℕ
+end_of at (got v xs) = elim (fits v) [ true ↦ Some (at + size v) | false ↦ None ]
+end_of at malformed = None
 
 ----------------------------------------------------------------
 -- One value; values one after another
@@ -48,9 +44,9 @@ value_in xs = or_unit (value xs)
 abbrev pub values_in : List ℕ → List Val
 values_in xs = or_none (ancillae xs)
 
-unfoldable pub counted : Option (List Val) → Counted
-counted none = count.Malformed
-counted (some vs) = count.Values (length vs)
+unfoldable pub counted : Option (List Val) → Found ℕ
+counted none = None
+counted (some vs) = Some (length vs)
 
 ----------------------------------------------------------------
 -- The parts of a pair

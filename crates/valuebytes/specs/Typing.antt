@@ -1,19 +1,17 @@
 -- What the test whether a value is of a type is given, and what it answers (section 4, row Call: refusal 11).
-use Rattle.std.specs.Prelude.{ℕ, ◌+◌, ◌≤◌, ◌<◌, ◌≡◌, Bool, true, false, ◌&&◌, List, map, length, get_or}
+use Rattle.std.specs.Prelude.{ℕ, ◌+◌, ◌≤◌, ◌<◌, ◌≡◌, Bool, true, false, ◌&&◌, List, map, length, get_or, Option as Found, Some, None}
 use Rattle.std.proofs.Math.Option.{Option, none, some}
 use package.Rattle.rules.specs.Limits.{max_value_bytes, fits}
 use package.Rattle.rules.specs.Val.{Val, size}
 use package.Rattle.rules.specs.Ty.{Ty}
 use package.Rattle.calls.specs.Fields.{kind_at}
 use package.Rattle.calls.specs.Entries.{TypeEntry, y_unit, type_at, type_of}
-use package.Rattle.calls.specs.Named.{types_of_type, below}
+use package.Rattle.calls.specs.Named.{types_of_type, below, plain}
 use package.Rattle.calls.specs.Values.{Read, got, malformed, has_ty}
 use package.Rattle.calls.specs.Tested.{closed}
 use package.Rattle.program.specs.Parts.{TypeField}
 use package.Rattle.program.specs.Kinds.{type_variable_kind, recursive_kind}
-use package.Rattle.valuebytes.specs.declared.typed.Scoped.{Scoped}
-use package.Rattle.valuebytes.specs.declared.typed.Step.{Step}
-use package.Rattle.valuebytes.specs.declared.typed.Step.TheVariants as step
+use package.Rattle.valuebytes.specs.declared.walk.Scoped.{Scoped}
 use package.Rattle.valuebytes.specs.Scopes.{scope_of, type_under}
 
 ----------------------------------------------------------------
@@ -27,6 +25,10 @@ entries_of xs os = map (type_at xs) os
 pub record TypesRead (xs os : List ℕ) : Type 0 where
   pub field : (i : ℕ) → i < length os → TypeField xs (get_or os i 0)
   pub lower : (i : ℕ) → below i (types_of_type (get_or (entries_of xs os) i y_unit)) ≡ true
+
+-- entry `i` is there, and its type is closed and within the limit on nodes
+abbrev pub Asked : List ℕ → List ℕ → ℕ → Type 0
+Asked xs os i = (i < length os) × (plain (entries_of xs os) i ≡ true)
 
 ----------------------------------------------------------------
 -- Cells
@@ -66,11 +68,11 @@ unfoldable pub value_has : Option Val → Ty → Bool
 value_has none c = false
 value_has (some v) c = has_ty v c
 
-abbrev pub next_if : Bool → ℕ → Step
-next_if true n = step.Next n
-next_if false n = step.Other
+abbrev pub next_if : Bool → ℕ → Found ℕ
+next_if true n = Some n
+next_if false n = None
 
 -- where the next value starts, if what was read from place `at` is within the limit and of the type
-unfoldable pub next_of : ℕ → Read → Ty → Step
+unfoldable pub next_of : ℕ → Read → Ty → Found ℕ
 next_of at (got v xs) c = next_if (fits v && has_ty v c) (at + size v)
-next_of at malformed c = step.Other
+next_of at malformed c = None

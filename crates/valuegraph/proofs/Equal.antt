@@ -12,7 +12,7 @@ use package.Rattle.rules.proofs.Val.{same_refl, same_eq}
 use package.Rattle.valuegraph.specs.Nodes.{kind_at, length_at, head_at, left_at, right_at, part_at, Room, fingerprint, alike_at, of_kind, Single}
 use package.Rattle.valuegraph.specs.Nodes.{value_within, value_at, Heap}
 use package.Rattle.valuegraph.proofs.Places.{head_is}
-use package.Rattle.valuegraph.proofs.Shapes.{kind_of, kind_of-of_kind, kind-single, print-byte}
+use package.Rattle.valuegraph.proofs.Shapes.{kind_of, kind_of-of_kind, single-some, print-byte}
 use package.Rattle.valuegraph.proofs.Heaps.{lower, value-parts, value-unit}
 
 ----------------------------------------------------------------
@@ -90,13 +90,7 @@ pub record Comparing (heap : List ℕ) (top a b x y : ℕ) : Type 0 where
   pub down : x ≤ a
   pub answer : same (value_at heap x) (value_at heap y) ≡ same (value_at heap a) (value_at heap b)
 
-pub compare_start : {heap : List ℕ} {top a b : ℕ} → Heap heap top → (a < top) × (b < top) → Comparing heap top a b a b
-compare_start h l = record { right = h; below = l; down = omega arith; answer = refl }
-
 module _ {heap : List ℕ} {top a b x y : ℕ} (w : Comparing heap top a b x y) where
-  pub compare_rooms : Room heap (x + 1) × Room heap (y + 1)
-  compare_rooms = (omega (arith, w.right.held, w.below), omega (arith, w.right.held, w.below))
-
   pub compare_done : x ≡ y → true ≡ same (value_at heap a) (value_at heap b)
   compare_done e = sym (same_refl (value_at heap y)) ∙ ap (λ n. same (value_at heap n) (value_at heap y)) (sym e) ∙ w.answer
 
@@ -138,18 +132,19 @@ module _ {heap : List ℕ} {top a b x y k : ℕ} (w : Alike heap top a b x y k) 
     pub parts_rooms : Room heap (left_at heap x + 1) × Room heap (right_at heap x + 1)
     parts_rooms = let c = w.comparing in (omega (arith, lower-x, c.right.held, c.below), omega (arith, lower-x, c.right.held, c.below))
 
-    -- inl, inr and roll: on with the part
-    pub compare_one : {l l' : ℕ} → ¬ (k ≡ 3) → l ≡ left_at heap x → l' ≡ left_at heap y → Comparing heap top a b l l' × (l < x)
-    compare_one {l} {l'} nt e e' = let c = w.comparing in (
-      record {
-        right = c.right;
-        below = (omega (arith, lower-x, c.below), omega (arith, lower-y, c.below));
-        down = omega (arith, lower-x, c.down);
-        answer = rw (e, e') (sym (same_singles k _ _ _ _ (kind-single k some (rw w.kind (c.right.node x c.below.0).kind) nt))
-            ∙ sym (ap₂ same of-x of-y)) ∙ c.answer;
-      },
-      omega (arith, lower-x),
-    )
+  -- inl, inr and roll: on with the part
+  pub compare_one : {l l' : ℕ} → Single k → l ≡ left_at heap x → l' ≡ left_at heap y → Comparing heap top a b l l' × (l < x)
+  compare_one {l} {l'} s e e' =
+      let c = w.comparing in
+      let some = single-some k s in (
+        record {
+          right = c.right;
+          below = (omega (arith, lower-x some, c.below), omega (arith, lower-y some, c.below));
+          down = omega (arith, lower-x some, c.down);
+          answer = rw (e, e') (sym (same_singles k _ _ _ _ s) ∙ sym (ap₂ same (of-x some) (of-y some))) ∙ c.answer;
+        },
+        omega (arith, lower-x some),
+      )
 
 -- one part of each of two pairs that are alike, as it was read
 pub record PartRead (heap : List ℕ) (top a b x y k : ℕ) (left : Bool) (l l' : ℕ) : Type 0 where

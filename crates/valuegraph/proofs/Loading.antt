@@ -17,7 +17,7 @@ use package.Rattle.calls.specs.Values.{got, read, encode_all}
 use package.Rattle.calls.proofs.Values.{read-encode, size-positive, length-encode-append}
 use package.Rattle.valuegraph.specs.Nodes.{length_at, of_kind, Single, value_at, Grown, Made}
 use package.Rattle.valuegraph.specs.Loads.{first_below, second_below, over_last, PlaceReady, LoadReady, node_of, BeginWith, LoadedFrom}
-use package.Rattle.valuegraph.proofs.Places.{agree_refl, agree_trans, agree-down}
+use package.Rattle.valuegraph.proofs.Places.{agree_trans, agree-down}
 use package.Rattle.valuegraph.proofs.Shapes.{single-part, kind-single, encode-single, encode-pair}
 use package.Rattle.valuegraph.proofs.Heaps.{value-kept}
 use package.Rattle.valuegraph.proofs.Making.{fits_true}
@@ -209,9 +209,6 @@ module _ {heap₀ heap : List ℕ} {top : ℕ} {xs : List ℕ} {i free : ℕ} (t
     fit = fits_true _ (omega (arith, L.short, begin_length (drop i xs) (over_last heap free byte) new_begin, length-drop i xs));
   }
 
-  pub turn_small : free + 1 ≤ top + length xs
-  turn_small = omega (arith, T.nodes, T.inside)
-
   pub turn-next : {heap' : List ℕ} → Grown heap heap' free (over_last heap free byte) → LoadedFrom heap₀ heap' top xs i (free + 1)
   turn-next {heap'} g = record {
     inside = omega (arith, T.inside);
@@ -230,18 +227,6 @@ module _ {heap₀ heap : List ℕ} {top : ℕ} {xs : List ℕ} {i free : ℕ} (t
           let y : free ≡ node_of top xs i = omega (arith, T.nodes, T.inside) in
           subst (λ (j : ℕ). BeginWith (drop j xs) (value_at heap' (node_of top xs j))) z
           (subst (λ (n : ℕ). BeginWith (drop i xs) (value_at heap' n)) y (rw g.value new_begin))
-
-pub load_start : {heap : List ℕ} {top : ℕ} {xs : List ℕ} → LoadReady heap top xs → LoadedFrom heap heap top xs (length xs) top
-load_start {heap} {top} {xs} L = record {
-  inside = omega arith;
-  nodes = omega arith;
-  right = L.right;
-  agree = agree_refl top heap;
-  begins = λ j l h. absurd (omega arith);
-}
-
-pub load_done : {heap heap' : List ℕ} {top : ℕ} {xs : List ℕ} {i free : ℕ} → LoadedFrom heap heap' top xs i free → i ≤ 0 → LoadedFrom heap heap' top xs 0 free
-load_done {heap} {heap'} {top} {xs} {i} {free} T l = let z : i ≡ 0 = omega arith in subst (λ (i : ℕ). LoadedFrom heap heap' top xs i free) z T
 
 ----------------------------------------------------------------
 -- For callers

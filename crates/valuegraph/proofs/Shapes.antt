@@ -45,6 +45,11 @@ kind-single (suc (suc (suc zero))) z h t = absurd (t refl)
 kind-single (suc (suc (suc (suc zero)))) z h t = right (right refl)
 kind-single (suc (suc (suc (suc (suc k))))) z h t = absurd (omega arith)
 
+pub single-some : (k : ℕ) → Single k → ¬ (k ≡ 0)
+single-some k (left e) z = omega arith
+single-some k (right (left e)) z = omega arith
+single-some k (right (right e)) z = omega arith
+
 pub single-kind : (k : ℕ) → Single k → k ≤ 4
 single-kind k (left e) = omega arith
 single-kind k (right (left e)) = omega arith

@@ -1,7 +1,7 @@
 -- Laws that storing cites: what is still to be stored, and that each turn leaves less of it.
 use Prim.Native.Nat.{ℕ, ◌+◌, ◌<◌, ◌≤◌}
 use native.Mathlib.Omega.{arith}
-use mathlib.Core.Path.{◌≡◌, refl, sym, ap, ◌∙◌}
+use mathlib.Core.Path.{◌≡◌, sym, ap, ◌∙◌}
 use mathlib.Core.List.{List, [], ◌∷◌, ◌++◌}
 use lib.ListN.{length, set, length-set}
 use package.Rattle.octets.specs.Runs.{pasted}
@@ -9,9 +9,9 @@ use package.Rattle.octets.proofs.Pastes.{pasted-behind, pasted-before, set-paste
 use package.Rattle.rules.specs.Val.{size, encode}
 use package.Rattle.rules.proofs.Val.{length-encode}
 use package.Rattle.calls.proofs.Values.{size-positive}
-use package.Rattle.valuegraph.specs.Nodes.{kind_at, length_at, left_at, right_at, Room, of_kind, value_at, Heap}
+use package.Rattle.valuegraph.specs.Nodes.{kind_at, length_at, left_at, right_at, Room, of_kind, Single, value_at, Heap}
 use package.Rattle.valuegraph.specs.Stores.{StoreReady, StoreDone}
-use package.Rattle.valuegraph.proofs.Shapes.{kind-single, size-single, size-pair, encode-single, encode-pair}
+use package.Rattle.valuegraph.proofs.Shapes.{single-some, size-single, size-pair, encode-single, encode-pair}
 use package.Rattle.valuegraph.proofs.Heaps.{lower, value-parts, value-unit, heap_down}
 
 -- a byte, and a run behind it
@@ -31,9 +31,6 @@ pub record Storing (heap : List ℕ) (n : ℕ) (out₀ : List ℕ) (at x : ℕ) 
 -- the value's length, as it was read
 pub length-read : {heap : List ℕ} {n : ℕ} {out : List ℕ} {at : ℕ} → StoreReady heap n out at → length_at heap n ≡ size (value_at heap n)
 length-read {n = n} w = (w.right.node n (omega arith)).len
-
-pub store_start : {heap : List ℕ} {n : ℕ} {out : List ℕ} {at : ℕ} → StoreReady heap n out at → Storing heap n out at n out at
-store_start w = record { ready = w; down = omega arith; lengths = refl; rest = refl }
 
 module _ {heap : List ℕ} {n : ℕ} {out₀ : List ℕ} {at x : ℕ} {out : List ℕ} {place : ℕ} (s : Storing heap n out₀ at x out place) where
   pub node-room : Room heap (x + 1)
@@ -88,16 +85,17 @@ module _ {heap : List ℕ} {n : ℕ} {out₀ : List ℕ} {at x : ℕ} {out : Lis
       rest = q;
     }
 
-    -- inl, inr and roll
-    pub store_one : {l : ℕ} → ¬ (k ≡ 3) → l ≡ left_at heap x → Storing heap n out₀ at l (set out place k) (place + 1) × (l < x)
-    unfolding written
-    store_one {l} nt e =
-        let single = kind-single k some (rw w.kind (heap_x.node x (omega arith)).kind) nt in
-        let v = value_at heap (left_at heap x) in
-        let u = value_at heap (right_at heap x) in
-        let long : size (value_at heap x) ≡ size v + 1 = ap size whole ∙ size-single k v u single in
-        let behind = rest_behind (ap encode whole ∙ encode-single k v u single) in
-        rw e (on lower-x.0 (simp length-set) (omega (arith, w.storing.ready.room, long)) behind, lower-x.0)
+  -- inl, inr and roll
+  pub store_one : {l : ℕ} → Single k → l ≡ left_at heap x → Storing heap n out₀ at l (set out place k) (place + 1) × (l < x)
+  unfolding written
+  store_one {l} single e =
+      let some = single-some k single in
+      let v = value_at heap (left_at heap x) in
+      let u = value_at heap (right_at heap x) in
+      let low = (lower-x some).0 in
+      let long : size (value_at heap x) ≡ size v + 1 = ap size (whole some) ∙ size-single k v u single in
+      let behind = rest_behind some (ap encode (whole some) ∙ encode-single k v u single) in
+      rw e (on some low (simp length-set) (omega (arith, w.storing.ready.room, long)) behind, low)
 
 -- a pair whose parts were read, and the place behind the left one
 pub record PairRead (heap : List ℕ) (n : ℕ) (out₀ : List ℕ) (at x : ℕ) (out : List ℕ) (place k l r behind : ℕ) : Type 0 where
@@ -147,10 +145,6 @@ module _ {heap : List ℕ} {n : ℕ} {out₀ : List ℕ} {at x : ℕ} {out : Lis
     right = heap_down (r + 1) (omega (arith, lowers)) heap_here;
     room = omega (arith, space, place-behind, length-encode (value_at heap r));
   }
-
-  pub behind-inside : behind ≤ length out₀
-  unfolding written
-  behind-inside = omega (arith, place-behind, space, p.node.storing.lengths, length-set out place k)
 
   -- a stored part changes no length
   same-long : (out' : List ℕ) → length out' ≡ length (set out place k) → length out' ≡ length out

@@ -5,6 +5,8 @@ use Rattle.std.specs.Prelude.{ℕ, zero, suc, ◌+◌, ◌*◌, ◌%◌, ◌<◌
 use package.Rattle.octets.specs.Numbers.{get16, get32, put16, put32}
 use package.Rattle.rules.specs.Val.{Val, unit, inl, inr, pair, roll, size}
 use package.Rattle.rules.specs.Limits.{fits}
+use Rattle.valuegraph.specs.declared.kinds.Kind.{Kind}
+use Rattle.valuegraph.specs.declared.kinds.Kind.TheVariants.{Unit, Inl, Inr, Pair, Roll}
 
 ----------------------------------------------------------------
 -- The layout: kind, fingerprint, the value's length (2 bytes), left part and right part (4 bytes each)
@@ -86,6 +88,25 @@ fingerprint (roll v) = mixed 4 (fingerprint v) 0
 -- Do two nodes agree in kind, fingerprint and length? Nodes of equal values do (proofs/Equal).
 unfoldable pub alike_at : List ℕ → ℕ → ℕ → Bool
 alike_at heap a b = eqb (head_at heap a) (head_at heap b)
+
+----------------------------------------------------------------
+-- Kinds
+
+-- the number of a kind, which is that of the value bytes
+abbrev pub kind_number : Kind → ℕ
+kind_number Unit = 0
+kind_number Inl = 1
+kind_number Inr = 2
+kind_number Pair = 3
+kind_number Roll = 4
+
+-- the kind that a number names: one above roll's, which no node has, is read as roll's is (`of_kind`)
+abbrev pub kind_named : ℕ → Kind
+kind_named zero = Unit
+kind_named (suc zero) = Inl
+kind_named (suc (suc zero)) = Inr
+kind_named (suc (suc (suc zero))) = Pair
+kind_named (suc (suc (suc (suc n)))) = Roll
 
 ----------------------------------------------------------------
 -- Values at nodes

@@ -18,13 +18,6 @@ use Rattle.varsets.specs.declared.Uses.{Uses}
 ----------------------------------------------------------------
 -- Numbers that no variable of a set has
 
-pub all-below : (u : Uses) (n : ℕ) → max_variables ≤ n → Holds u (below n (has u))
-all-below u n h = record { each = λ i l. sym (ap (λ b. has u i && b) (lt-ltb i n (omega arith)) ∙ unchanged (has u i)) }
-  where
-    unchanged : (b : Bool) → (b && true) ≡ b
-    unchanged true = refl
-    unchanged false = refl
-
 pub all-ancillae : (u : Uses) (q n : ℕ) → max_variables ≤ q → AllInside u q n
 all-ancillae u q n h i l e = ap (λ b. b || leb n i) (lt-ltb i q (omega arith))
 

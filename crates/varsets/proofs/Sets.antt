@@ -36,14 +36,10 @@ unfolding has
 holds-first n l = record { each = λ i h. ap (λ m. bit (m - 1) i) (power n l) ∙ bit_ones n i }
 
 -- of the first `n` and the first `low`, no more than `n`, one set has the variables between
-pub holds-between : (low n : ℕ) → low ≤ n → n < max_variables
-    → Holds (record { bits = bit_xor (1 * 2 ^ n % 4294967296 - 1) (1 * 2 ^ low % 4294967296 - 1) }) (ranged low n)
+pub holds-between : (low n : ℕ) {u v : Uses} → low ≤ n → Holds u (firsts n) → Holds v (firsts low) → Holds (record { bits = bit_xor u.bits v.bits }) (ranged low n)
 unfolding has
-holds-between low n l h = record {
-  each = λ i k. bit-xor _ _ i
-      ∙ ap₂ (λ a b. not (beq a b)) (ap (λ m. bit (m - 1) i) (power n h) ∙ bit_ones n i)
-      (ap (λ m. bit (m - 1) i) (power low (omega arith)) ∙ bit_ones low i)
-      ∙ go i (dec_lt i low) (dec_lt i n);
+holds-between low n {u} {v} l U V = record {
+  each = λ i k. bit-xor u.bits v.bits i ∙ ap₂ (λ a b. not (beq a b)) (U.each i k) (V.each i k) ∙ go i (dec_lt i low) (dec_lt i n);
 }
   where
     go : (i : ℕ) → Dec (i < low) → Dec (i < n) → not (beq (ltb i n) (ltb i low)) ≡ (ltb i n && not (ltb i low))
@@ -52,12 +48,9 @@ holds-between low n l h = record {
     go i (no a) (yes b) = rw (le-ltb i low (omega arith), lt-ltb i n b)
     go i (no a) (no b) = rw (le-ltb i low (omega arith), le-ltb i n (omega arith))
 
-pub holds-below : (u : Uses) (n : ℕ) → n < max_variables → Holds (record { bits = bit_and u.bits (1 * 2 ^ n % 4294967296 - 1) }) (below n (has u))
+pub holds-below : (u : Uses) (n : ℕ) {v : Uses} → Holds v (firsts n) → Holds (record { bits = bit_and u.bits v.bits }) (below n (has u))
 unfolding has
-holds-below u n l = record {
-  each = λ i h.
-      bit-and u.bits (1 * 2 ^ n % 4294967296 - 1) i ∙ ap (λ b. bit u.bits i && b) (ap (λ m. bit (m - 1) i) (power n l) ∙ bit_ones n i);
-}
+holds-below u n {v} V = record { each = λ i h. bit-and u.bits v.bits i ∙ ap (λ b. bit u.bits i && b) (V.each i h) }
 
 pub holds_union : (u v : Uses) → Holds (record { bits = bit_or u.bits v.bits }) (joined (has u) (has v))
 unfolding has

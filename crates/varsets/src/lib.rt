@@ -46,29 +46,26 @@ impl Uses {
         requires { (low ≤ n) × (n < max_variables) }
         ensures { Holds result (ranged low n) }
     {
-        let start: u32 = 1 << low;
-        let end: u32 = 1 << n;
         Self {
-            bits: (end - 1) ^ (start - 1),
+            bits: Self::first(n).bits ^ Self::first(low).bits,
         }
     }
 
-    pub fn union(self, other: Uses) -> Uses
+    pub fn union(self, other: Self) -> Self
         ensures { Holds result (joined (has self) (has other)) }
     {
-        Uses {
+        Self {
             bits: self.bits | other.bits,
         }
     }
 
     // Those of the set that are among the first n variables.
-    pub fn among_first(self, n: u8) -> Uses
+    pub fn among_first(self, n: u8) -> Self
         requires { n < max_variables }
         ensures { Holds result (below n (has self)) }
     {
-        let power: u32 = 1 << n;
-        Uses {
-            bits: self.bits & (power - 1),
+        Self {
+            bits: self.bits & Self::first(n).bits,
         }
     }
 
@@ -81,14 +78,14 @@ impl Uses {
     }
 
     // Do two sets have the same variables among those of a third?
-    pub fn agree_on(self, other: Uses, among: Uses) -> bool
+    pub fn agree_on(self, other: Self, among: Self) -> bool
         ensures { Decides result (AgreeOn self other among) }
     {
         (self.bits ^ other.bits) & among.bits == 0
     }
 
     // Those of the set that are below n, whatever n is.
-    fn those_below(self, n: usize) -> Uses
+    fn those_below(self, n: usize) -> Self
         ensures { Holds result (below n (has self)) }
     {
         if n < ROOM {
@@ -108,7 +105,7 @@ impl Uses {
         scope.bits >> q == 0
     }
 
-    // A set as two numbers, and the set that they are.
+    // A set as two numbers, and the set that they are. Kept: names and no From, since a pair of numbers would not say which half is which.
     pub fn low_half(self) -> u16
         ensures { result ≡ low_half self }
     {
@@ -125,7 +122,7 @@ impl Uses {
         ensures { result ≡ of_halves low high }
     {
         Self {
-            bits: HALF_RANGE * octets::wide32(high) + octets::wide32(low),
+            bits: HALF_RANGE * u32::from(high) + u32::from(low),
         }
     }
 }

@@ -17,6 +17,8 @@ use package.Rattle.valuegraph.proofs.Heaps.{value-kept}
 use package.Rattle.scopes.specs.Slots.{unknown, meaning, state_at}
 use package.Rattle.scopes.proofs.Marks.{found-node}
 use package.Rattle.yields.proofs.Judging.{judged_yes, judged_as}
+use Rattle.yields.specs.declared.Answer.{Answer}
+use Rattle.yields.specs.declared.Answer.TheVariants.{Yes}
 use package.Rattle.yields.specs.Yields.{Judges, ancillae_at, Ancillae}
 
 ----------------------------------------------------------------
@@ -57,12 +59,12 @@ look_other heap slots base q i l = look_none _ i (let z : length (ancillae_at he
 
 -- an ancilla parameter yields its own value, another variable any
 module _ (heap slots : List ℕ) (base q i : ℕ) (v : Val) where
-  pub yields_own : i < q → {node r : ℕ} {exact : Bool} → node ≡ get_or slots (base + i) 0 → Judges exact r (same (value_at heap node) v)
+  pub yields_own : i < q → {node : ℕ} {r : Answer} {exact : Bool} → node ≡ get_or slots (base + i) 0 → Judges exact r (same (value_at heap node) v)
       → Judges exact r (may_be (look (ancillae_at heap slots base q) i) v)
   unfolding may_be
   yields_own l e p = judged_as p (sym (ap (λ o. may_be o v) (look_ancilla heap slots base q i l ∙ ap (λ n. some (value_at heap n)) (sym e))))
 
-  pub yields-any : q ≤ i → {exact : Bool} → Judges exact 2 (may_be (look (ancillae_at heap slots base q) i) v)
+  pub yields-any : q ≤ i → {exact : Bool} → Judges exact Yes (may_be (look (ancillae_at heap slots base q) i) v)
   unfolding may_be
   yields-any l = judged_yes (ap (λ o. may_be o v) (look_other heap slots base q i l))
 

@@ -5,5 +5,7 @@ pub mod Ancillae
 pub mod Shapes
 -- answers, exact or at a glance, joined
 pub mod Judging
+-- a node's kind, as it was read and compared
+pub mod Read
 -- what a term may yield, by its form
 pub mod Forms

@@ -6,6 +6,8 @@ use package.Rattle.calls.specs.Entries.{TypeEntry}
 use package.Rattle.valuegraph.specs.Nodes.{value_at, Heap}
 use package.Rattle.scopes.specs.Slots.{unknown, slot_count, slots_of, machine_of, scope_in}
 use package.Rattle.decoded.specs.Rows.{term_count, tree_in, Rows}
+use Rattle.yields.specs.declared.Answer.{Answer}
+use Rattle.yields.specs.declared.Answer.TheVariants.{No, Perhaps, Yes}
 
 ----------------------------------------------------------------
 -- Ancilla values: the ancilla parameters are the first `q` variables of a function's scope
@@ -39,15 +41,14 @@ pub record Asks (code heap st : List ℕ) (scope t node : ℕ) : Type 0 where
   pub small : (machine_of st).top ≤ unknown
   pub ancillae : AncillaeIn st scope
 
--- The answer `r` to a question whose answer is `b`: 0 no, 2 yes, and 1, unless it is exact, perhaps.
-pub record Judges (exact : Bool) (r : ℕ) (b : Bool) : Type 0 where
-  pub never : r ≡ 0 → b ≡ false
-  pub surely : r ≡ 2 → b ≡ true
-  pub most : r ≤ 2
-  pub exactly : exact ≡ true → r ≡ 1 → ⊥
+-- The answer `r` to a question whose answer is `b`: perhaps is no answer where it is exact.
+pub record Judges (exact : Bool) (r : Answer) (b : Bool) : Type 0 where
+  pub never : r ≡ No → b ≡ false
+  pub surely : r ≡ Yes → b ≡ true
+  pub exactly : exact ≡ true → r ≡ Perhaps → ⊥
 
 -- May-yield looks at no type, so the rules' answer is the same whatever the type entries are.
-pub record YieldsIn (code heap st : List ℕ) (scope t node : ℕ) (exact : Bool) (r : ℕ) : Type 0 where
+pub record YieldsIn (code heap st : List ℕ) (scope t node : ℕ) (exact : Bool) (r : Answer) : Type 0 where
   pub judges : (ys : List TypeEntry) → Judges exact r (may_yield (ancillae_in heap st scope) (tree_in code ys t) (value_at heap node))
 
 pub record MayYield (code heap st : List ℕ) (scope t node : ℕ) (r : Bool) : Type 0 where

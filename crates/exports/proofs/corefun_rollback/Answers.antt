@@ -1,15 +1,7 @@
 use mathlib.Core.Path.{ap, ◌∙◌}
 use Rattle.exports.specs.Told.{run_told}
+use Rattle.exports.proofs.Numbers.{run_is}
 use Rattle.exports.proofs.corefun_rollback.Goals as goal
 
 pub returns-clause-answer : goal.returns-clause-answer
-returns-clause-answer c =
-    c.run_told.ensures ∙ ap run_told c.rollback-answer.ensures.answer
-
-pub returns-clause-keeps : goal.returns-clause-keeps
-returns-clause-keeps c =
-    c.rollback-answer.ensures.keeps
-
-pub returns-clause-clear : goal.returns-clause-clear
-returns-clause-clear c =
-    c.rollback-answer.ensures.clear
+returns-clause-answer c = c.told_of.ensures ∙ run_is _ ∙ ap run_told c.rollback.ensures.answer

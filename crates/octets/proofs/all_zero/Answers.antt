@@ -1,20 +1,15 @@
 use native.Mathlib.Omega.{arith}
-use borrow.Author.Rules.{rules}
-use Rattle.octets.proofs.Zeros.{seen_none, seen_more, seen_all, seen_some}
+use Rattle.octets.proofs.Zeros.{seen_none, seen_more, seen_decided}
 use Rattle.octets.proofs.all_zero.Goals as goal
 
-pub loop-i-init : goal.loop-i-init
-loop-i-init c =
-    (search rules, seen_none _)
+pub loop-byte-init : goal.loop-byte-init
+loop-byte-init c =
+    seen_none _
 
-pub loop-i-preserved : goal.loop-i-preserved
-loop-i-preserved c =
-    (search rules, seen_more _ _ _ c.loop-i.invariant.1)
-
-pub returns-then-seen-eq0 : goal.returns-then-seen-eq0
-returns-then-seen-eq0 c =
-    seen_all _ _ _ (omega arith) c.loop-i.invariant.1 c.if-seen-eq0.true
+pub loop-byte-preserved : goal.loop-byte-preserved
+loop-byte-preserved c =
+    seen_more _ _ _ c.loop-byte.invariant
 
 pub returns : goal.returns
 returns c =
-    seen_some _ _ _ (omega arith) c.loop-i.invariant.1 (omega arith)
+    seen_decided _ _ _ (omega arith) c.loop-byte.invariant

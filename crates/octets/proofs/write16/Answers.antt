@@ -1,14 +1,8 @@
-use lib.ListN.{length-set}
 use native.Mathlib.Omega.{arith}
-use mathlib.Core.Path.{refl}
-use Rattle.octets.specs.Numbers.{put16}
+use mathlib.Core.Path.{◌∙◌}
+use Rattle.octets.proofs.Pastes.{part-put16}
 use Rattle.octets.proofs.write16.Goals as goal
 
-pub bounds-s-at-2 : goal.bounds-s-at-2
-bounds-s-at-2 c =
-    simp length-set (omega arith)
-
 pub returns : goal.returns
-unfolding put16
 returns c =
-    refl
+    part-put16 _ _ _ _ c.requires (omega arith) (c.copy_from_slice.ensures.after ∙ c.to_be_bytes.ensures)

@@ -1,7 +1,8 @@
-use Rattle.octets.specs.Numbers.{put32}
+use native.Mathlib.Omega.{arith}
+use mathlib.Core.Path.{◌∙◌}
+use Rattle.octets.proofs.Pastes.{part-put32}
 use Rattle.octets.proofs.write32.Goals as goal
 
 pub returns : goal.returns
-unfolding put32
 returns c =
-    cc
+    part-put32 _ _ _ _ c.requires (omega arith) (c.copy_from_slice.ensures.after ∙ c.to_be_bytes.ensures)

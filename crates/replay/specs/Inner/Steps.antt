@@ -7,28 +7,28 @@ use package.Rattle.calls.specs.Answer.{Answer, accepted, refused}
 use package.Rattle.calls.specs.Conversions.{open_call}
 use package.Rattle.calls.specs.Book.{Call, buffer, Told, is_open, holds, refuses, Left, resized, call}
 use package.Rattle.calls.specs.Claims.{last_field}
-use package.Rattle.replay.specs.Scripts.{pick, open_tag, step_at, given_of, call_of, Script, parse_from}
+use package.Rattle.replay.specs.Scripts.{pick, Step, End, Malformed, Play, step_at, given_of, call_of, Script, parse_from}
 use package.Rattle.replay.specs.Lines.{line_length, line}
 use package.Rattle.replay.specs.Playing.{Reply, played, malformed, too_wide, short_answers, unopened, cut, reply_of, hindrance, Result, ends}
 use package.Rattle.replay.specs.declared.scripts.Part.{Part}
-use package.Rattle.replay.specs.declared.scripts.Step.{Step}
-use package.Rattle.replay.specs.declared.scripts.Step.TheVariants as steps
-use package.Rattle.replay.specs.declared.replies.Move.{Move}
-use package.Rattle.replay.specs.declared.replies.Move.TheVariants as moves
+use package.Rattle.replay.specs.declared.scripts.Kind.{Kind}
+use package.Rattle.replay.specs.declared.scripts.Kind.TheVariants.{Open, Convert, Rollback}
+use package.Rattle.replay.specs.declared.replies.ReplayError.{ReplayError}
+use Rattle.std.specs.Prelude.{Result as Outcome, Ok, Err}
 
 -- what comes next: an end, or the call at a place
 pub data Next : Type 0 where
   halts : Reply → Next
   on : ℕ → Next
 
-abbrev pub next_of : Move → Next
-next_of (moves.Stop r) = halts (reply_of r)
-next_of (moves.To at) = on at
+abbrev pub next_of : Outcome ℕ ReplayError → Next
+next_of (Err e) = halts (reply_of (Err e))
+next_of (Ok at) = on at
 
 -- what reading a script answers: why it is not played, if so
-abbrev pub stop_of : Move → Option Reply
-stop_of (moves.Stop r) = some (reply_of r)
-stop_of (moves.To count) = none
+abbrev pub stop_of : Outcome ℕ ReplayError → Option Reply
+stop_of (Err e) = some (reply_of (Err e))
+stop_of (Ok count) = none
 
 -- what hinders a script (`hindrance`)
 abbrev pub hinders : ℕ → ℕ → Script → Option Reply
@@ -80,9 +80,9 @@ makes (on next) program c count journal answers workspace = record {
 -- what stands at a place, played
 unfoldable pub turn_of : List ℕ → List ℕ → Step → ℕ → ℕ → List ℕ → List ℕ → List ℕ → PlayedTurn
 unfolding makes tested call_of
-turn_of program script steps.End at count journal answers workspace = unplayed (played count) journal answers workspace
-turn_of program script steps.Malformed at count journal answers workspace = unplayed (malformed at) journal answers workspace
-turn_of program script (steps.Play p) at count journal answers workspace =
+turn_of program script End at count journal answers workspace = unplayed (played count) journal answers workspace
+turn_of program script Malformed at count journal answers workspace = unplayed (malformed at) journal answers workspace
+turn_of program script (Play p) at count journal answers workspace =
     makes (tested p.n at p.next journal) program (call_of (length workspace) script p) count journal answers workspace
 
 ----------------------------------------------------------------
@@ -117,19 +117,23 @@ opens_to (accepted xs) program script next journal answers workspace =
     play (length script) program script next 1 (resized (length journal) xs) (pasted answers 0 (line is_open)) (swept is_open workspace)
 
 -- the first call: an open
-unfoldable pub begins : List ℕ → List ℕ → Part → List ℕ → List ℕ → List ℕ → Result
+unfoldable pub begins_as : Kind → List ℕ → List ℕ → Part → List ℕ → List ℕ → List ℕ → Result
 unfolding opens_to
-begins program script p journal answers workspace =
-    pick (eqb p.kind open_tag)
-    (opens_to (open_call program (given_of script p) (length workspace) p.n) program script p.next journal answers workspace)
-    (ends (malformed 0) journal answers workspace)
+begins_as Open program script p journal answers workspace =
+    opens_to (open_call program (given_of script p) (length workspace) p.n) program script p.next journal answers workspace
+begins_as (Convert fuel function) program script p journal answers workspace = ends (malformed 0) journal answers workspace
+begins_as (Rollback fuel) program script p journal answers workspace = ends (malformed 0) journal answers workspace
+
+unfoldable pub begins : List ℕ → List ℕ → Part → List ℕ → List ℕ → List ℕ → Result
+unfolding begins_as
+begins program script p journal answers workspace = begins_as p.kind program script p journal answers workspace
 
 -- what stands at the start
 unfoldable pub begins_at : Step → List ℕ → List ℕ → List ℕ → List ℕ → List ℕ → Result
 unfolding begins
-begins_at steps.End program script journal answers workspace = ends (malformed 0) journal answers workspace
-begins_at steps.Malformed program script journal answers workspace = ends (malformed 0) journal answers workspace
-begins_at (steps.Play p) program script journal answers workspace = begins program script p journal answers workspace
+begins_at End program script journal answers workspace = ends (malformed 0) journal answers workspace
+begins_at Malformed program script journal answers workspace = ends (malformed 0) journal answers workspace
+begins_at (Play p) program script journal answers workspace = begins program script p journal answers workspace
 
 ----------------------------------------------------------------
 -- What the functions ask and promise
@@ -148,7 +152,7 @@ pub record Made (program : List ℕ) (c : Call) (journal workspace l journal' wo
   pub clear : workspace' ≡ swept (leaves program c journal).told workspace
 
 -- a turn was played
-pub record PlayMeans (m : Move) (t : PlayedTurn) (journal' answers' workspace' : List ℕ) : Type 0 where
+pub record PlayMeans (m : Outcome ℕ ReplayError) (t : PlayedTurn) (journal' answers' workspace' : List ℕ) : Type 0 where
   pub next_is : next_of m ≡ t.next
   pub kept : journal' ≡ t.journal
   pub told : answers' ≡ t.answers

@@ -1,14 +1,12 @@
-use mathlib.Core.Path.{sym, ap, ◌∙◌}
-use Rattle.backward.specs.Outcomes.{Refused}
-use Rattle.backward.proofs.Stops.{number-stuck}
-use Rattle.backward.proofs.Leaves.{unit_there, unit_missing}
+use mathlib.Core.Path.{refl, sym, ap, ◌∙◌}
+use Rattle.valuegraph.specs.Nodes.{kind_named}
+use Rattle.backward.proofs.Leaves.{unit_named}
 use Rattle.backward.proofs.outcomes.unit.Goals as goal
 
-pub returns-then-kind-eq-UNIT : goal.returns-then-kind-eq-UNIT
-returns-then-kind-eq-UNIT c =
-    unit_there c.args.b c.args.node (sym c.kind_of-kind.ensures ∙ c.if-kind-eq-UNIT.true)
+pub returns-in-Unit : goal.returns-in-Unit
+returns-in-Unit c =
+    record { met = λ _. refl; differs = λ n. absurd (n (unit_named _ (sym c.kind_of.ensures ∙ c.in-Unit.is))) }
 
-pub returns : goal.returns
-returns c =
-    unit_missing c.args.b c.args.node
-    (λ e. c.if-kind-eq-UNIT.false (c.kind_of-kind.ensures ∙ e)) (c.refuse.ensures.0 ∙ ap Refused (number-stuck _)) c.refuse.ensures.1
+pub returns-in_default : goal.returns-in_default
+returns-in_default c =
+    record { met = λ e. absurd (c.in_default.not-Unit (c.kind_of.ensures ∙ ap kind_named e)); differs = λ _. refl }

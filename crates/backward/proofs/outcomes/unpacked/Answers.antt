@@ -1,8 +1,10 @@
-use mathlib.Core.Path.{refl}
-use Rattle.backward.specs.Outcomes.{out_in}
+use Rattle.backward.proofs.Stops.{unpacked-done, unpacked-stopped}
 use Rattle.backward.proofs.outcomes.unpacked.Goals as goal
 
+pub returns-then-stop-ne0 : goal.returns-then-stop-ne0
+returns-then-stop-ne0 c =
+    unpacked-stopped c.args.r c.if-stop-ne0.true c.why.ensures
+
 pub returns : goal.returns
-unfolding out_in
 returns c =
-    refl
+    unpacked-done c.args.r c.if-stop-ne0.false

@@ -6,7 +6,7 @@ use Rattle.calls.specs.Answer.{overwritten}
 use Rattle.calltext.proofs.Writing.{wrote_as}
 use Rattle.journal.proofs.Ends.{are_bytes}
 use Rattle.batch.specs.Capped.{most_output}
-use Rattle.batch.proofs.Capping.{capped-most, lent-within, lent_length, text-lent, bytes-lent}
+use Rattle.batch.proofs.Capping.{is_capped, capped-most, lent-within, lent_length, text-lent, bytes-lent}
 use Rattle.batch.proofs.Lending.{on-front}
 use Rattle.batch.proofs.reading.read.Goals as goal
 
@@ -17,20 +17,20 @@ slice_bounds-read_lent-end c =
 pub slice_bounds-read_lent-end-2 : goal.slice_bounds-read_lent-end-2
 unfolding most_output
 slice_bounds-read_lent-end-2 c =
-    lent-within most_output c.args.call.output c.least-len.ensures c.args.output.now c.requires.most_output_in_bounds
+    lent-within most_output c.args.call.output (is_capped _ _ c.min-len.ensures) c.args.output.now c.requires.most_output_in_bounds
 
 pub slice_bounds-read_lent-end-3 : goal.slice_bounds-read_lent-end-3
 unfolding most_output
 slice_bounds-read_lent-end-3 c =
-    sym (length-take-le c.least-len.result c.args.output.now
-    (lent-within most_output c.args.call.output c.least-len.ensures c.args.output.now c.requires.most_output_in_bounds))
+    sym (length-take-le c.min-len.result c.args.output.now
+    (lent-within most_output c.args.call.output (is_capped _ _ c.min-len.ensures) c.args.output.now c.requires.most_output_in_bounds))
 
 pub read_lent-requires : goal.read_lent-requires
 unfolding most_output
 read_lent-requires c =
     omega (
       arith,
-      lent_length most_output c.args.call.output c.least-len.ensures c.args.output.now c.requires.most_output_in_bounds,
+      lent_length most_output c.args.call.output (is_capped _ _ c.min-len.ensures) c.args.output.now c.requires.most_output_in_bounds,
       capped-most most_output c.args.call.output,
       c.requires.answer_room_in_bounds,
     )
@@ -40,11 +40,11 @@ unfolding most_output
 returns-clause-answer c =
     let bytes = are_bytes c.args.journal.now c.shared_slice_known-1.given in
     wrote_as c.read_lent.ensures.answer
-    (text-lent c.args.journal.now bytes c.args.call.journal c.args.call.output c.least-len.ensures c.args.output.now c.requires.most_output_in_bounds c.args.call.workshop)
+    (text-lent c.args.journal.now bytes c.args.call.journal c.args.call.output (is_capped _ _ c.min-len.ensures) c.args.output.now c.requires.most_output_in_bounds c.args.call.workshop)
 
 pub returns-clause-fills : goal.returns-clause-fills
 unfolding most_output
 returns-clause-fills c =
     let bytes = are_bytes c.args.journal.now c.shared_slice_known-1.given in
-    on-front c.least-len.ensures c.args.output.now _ (c.read_lent.ensures.fills ∙ ap (λ x. overwritten x (take c.least-len.result c.args.output.now))
-    (bytes-lent c.args.journal.now bytes c.args.call.journal c.args.call.output c.least-len.ensures c.args.output.now c.requires.most_output_in_bounds c.args.call.workshop))
+    on-front (is_capped _ _ c.min-len.ensures) c.args.output.now _ (c.read_lent.ensures.fills ∙ ap (λ x. overwritten x (take c.min-len.result c.args.output.now))
+    (bytes-lent c.args.journal.now bytes c.args.call.journal c.args.call.output (is_capped _ _ c.min-len.ensures) c.args.output.now c.requires.most_output_in_bounds c.args.call.workshop))

@@ -1,5 +1,6 @@
 use native.Mathlib.Omega.{arith}
-use mathlib.Core.Path.{refl, sym, ap, subst}
+use mathlib.Core.Path.{refl, sym, ap, subst, ◌∙◌}
+use Rattle.std.specs.Prelude.{Ok, Err}
 use Rattle.calltext.specs.Parsed.{line_of, Within}
 use Rattle.batch.specs.Answering.{answer_to}
 use Rattle.batch.specs.Lent.{workspace_after, output_after, journal_after}
@@ -8,7 +9,8 @@ use Rattle.batch.proofs.replying.reply.Goals as goal
 
 pub check-requires-clause-program_in_bounds : goal.check-requires-clause-program_in_bounds
 check-requires-clause-program_in_bounds c =
-    (subst (λ q. Within q c.args.program.now c.args.ancillae.now c.args.value.now) c.in-Checks.is c.requires.within)
+    let e = c.in-Ok.is ∙ ap Ok c.in-Check.is in
+    (subst (λ q. Within q c.args.program.now c.args.ancillae.now c.args.value.now) e c.requires.within)
 
 pub check-requires-clause-most_workspace_in_bounds : goal.check-requires-clause-most_workspace_in_bounds
 check-requires-clause-most_workspace_in_bounds c =
@@ -20,7 +22,8 @@ check-requires-clause-in_bounds c =
 
 pub run-requires-clause-program_in_bounds : goal.run-requires-clause-program_in_bounds
 run-requires-clause-program_in_bounds c =
-    (subst (λ q. Within q c.args.program.now c.args.ancillae.now c.args.value.now) c.in-Runs.is c.requires.within)
+    let e = c.in-Ok.is ∙ ap Ok c.in-Run.is in
+    (subst (λ q. Within q c.args.program.now c.args.ancillae.now c.args.value.now) e c.requires.within)
 
 pub run-requires-clause-most_workspace_in_bounds : goal.run-requires-clause-most_workspace_in_bounds
 run-requires-clause-most_workspace_in_bounds c =
@@ -32,7 +35,8 @@ run-requires-clause-answer_room_in_bounds c =
 
 pub open-requires-clause-program_in_bounds : goal.open-requires-clause-program_in_bounds
 open-requires-clause-program_in_bounds c =
-    (subst (λ q. Within q c.args.program.now c.args.ancillae.now c.args.value.now) c.in-Opens.is c.requires.within)
+    let e = c.in-Ok.is ∙ ap Ok c.in-Open.is in
+    (subst (λ q. Within q c.args.program.now c.args.ancillae.now c.args.value.now) e c.requires.within)
 
 pub open-requires-clause-most_workspace_in_bounds : goal.open-requires-clause-most_workspace_in_bounds
 open-requires-clause-most_workspace_in_bounds c =
@@ -44,7 +48,8 @@ open-requires-clause-journal_in_bounds c =
 
 pub convert-requires-clause-program_in_bounds : goal.convert-requires-clause-program_in_bounds
 convert-requires-clause-program_in_bounds c =
-    (subst (λ q. Within q c.args.program.now c.args.ancillae.now c.args.value.now) c.in-Converts.is c.requires.within)
+    let e = c.in-Ok.is ∙ ap Ok c.in-Convert.is in
+    (subst (λ q. Within q c.args.program.now c.args.ancillae.now c.args.value.now) e c.requires.within)
 
 pub convert-requires-clause-most_workspace_in_bounds : goal.convert-requires-clause-most_workspace_in_bounds
 convert-requires-clause-most_workspace_in_bounds c =
@@ -56,7 +61,8 @@ convert-requires-clause-journal_in_bounds c =
 
 pub rollback-requires-clause-program_in_bounds : goal.rollback-requires-clause-program_in_bounds
 rollback-requires-clause-program_in_bounds c =
-    (subst (λ q. Within q c.args.program.now c.args.ancillae.now c.args.value.now) c.in-RollsBack.is c.requires.within)
+    let e = c.in-Ok.is ∙ ap Ok c.in-Rollback.is in
+    (subst (λ q. Within q c.args.program.now c.args.ancillae.now c.args.value.now) e c.requires.within)
 
 pub rollback-requires-clause-most_workspace_in_bounds : goal.rollback-requires-clause-most_workspace_in_bounds
 rollback-requires-clause-most_workspace_in_bounds c =
@@ -68,7 +74,8 @@ rollback-requires-clause-journal_in_bounds c =
 
 pub read-requires-clause-journal_in_bounds : goal.read-requires-clause-journal_in_bounds
 read-requires-clause-journal_in_bounds c =
-    (subst (λ q. Within q c.args.program.now c.args.ancillae.now c.args.value.now) c.in-Reads.is c.requires.within)
+    let e = c.in-Ok.is ∙ ap Ok c.in-Read.is in
+    (subst (λ q. Within q c.args.program.now c.args.ancillae.now c.args.value.now) e c.requires.within)
 
 pub read-requires-clause-most_output_in_bounds : goal.read-requires-clause-most_output_in_bounds
 read-requires-clause-most_output_in_bounds c =
@@ -78,52 +85,62 @@ pub read-requires-clause-answer_room_in_bounds : goal.read-requires-clause-answe
 read-requires-clause-answer_room_in_bounds c =
     omega (arith, c.requires.answer_room_in_bounds)
 
-pub returns-in-Checks : goal.returns-in-Checks
+pub returns-in-Check : goal.returns-in-Check
 unfolding answer_to workspace_after output_after journal_after
-returns-in-Checks c =
-    (replies_as (record { told = c.check.ensures.answer; value = refl; workspace = c.check.ensures.clear; output = refl }) (ap (λ q. line_of q c.args.program.now c.args.ancillae.now c.args.value.now) (sym c.in-Checks.is)) refl)
+returns-in-Check c =
+    let e = c.in-Ok.is ∙ ap Ok c.in-Check.is in
+    (replies_as (record { told = c.check.ensures.answer; value = refl; workspace = c.check.ensures.clear; output = refl }) (ap (λ q. line_of q c.args.program.now c.args.ancillae.now c.args.value.now) (sym e)) refl)
 
-pub returns-in-Runs : goal.returns-in-Runs
+pub returns-in-Run : goal.returns-in-Run
 unfolding answer_to workspace_after output_after journal_after
-returns-in-Runs c =
-    (replies_as (record { told = c.run.ensures.answer; value = refl; workspace = c.run.ensures.clear; output = c.run.ensures.fills }) (ap (λ q. line_of q c.args.program.now c.args.ancillae.now c.args.value.now) (sym c.in-Runs.is)) refl)
+returns-in-Run c =
+    let e = c.in-Ok.is ∙ ap Ok c.in-Run.is in
+    (replies_as (record { told = c.run.ensures.answer; value = refl; workspace = c.run.ensures.clear; output = c.run.ensures.fills }) (ap (λ q. line_of q c.args.program.now c.args.ancillae.now c.args.value.now) (sym e)) refl)
 
-pub returns-in-Opens : goal.returns-in-Opens
+pub returns-in-Open : goal.returns-in-Open
 unfolding answer_to workspace_after output_after journal_after
-returns-in-Opens c =
-    (replies_as (record { told = c.open.ensures.answer; value = c.open.ensures.keeps; workspace = c.open.ensures.clear; output = refl }) (ap (λ q. line_of q c.args.program.now c.args.ancillae.now c.args.value.now) (sym c.in-Opens.is)) refl)
+returns-in-Open c =
+    let e = c.in-Ok.is ∙ ap Ok c.in-Open.is in
+    (replies_as (record { told = c.open.ensures.answer; value = c.open.ensures.keeps; workspace = c.open.ensures.clear; output = refl }) (ap (λ q. line_of q c.args.program.now c.args.ancillae.now c.args.value.now) (sym e)) refl)
 
-pub returns-in-Converts : goal.returns-in-Converts
+pub returns-in-Convert : goal.returns-in-Convert
 unfolding answer_to workspace_after output_after journal_after
-returns-in-Converts c =
-    (replies_as (record { told = c.convert.ensures.answer; value = c.convert.ensures.keeps; workspace = c.convert.ensures.clear; output = refl }) (ap (λ q. line_of q c.args.program.now c.args.ancillae.now c.args.value.now) (sym c.in-Converts.is)) refl)
+returns-in-Convert c =
+    let e = c.in-Ok.is ∙ ap Ok c.in-Convert.is in
+    (replies_as (record { told = c.convert.ensures.answer; value = c.convert.ensures.keeps; workspace = c.convert.ensures.clear; output = refl }) (ap (λ q. line_of q c.args.program.now c.args.ancillae.now c.args.value.now) (sym e)) refl)
 
-pub returns-in-RollsBack : goal.returns-in-RollsBack
+pub returns-in-Rollback : goal.returns-in-Rollback
 unfolding answer_to workspace_after output_after journal_after
-returns-in-RollsBack c =
-    (replies_as (record { told = c.rollback.ensures.answer; value = c.rollback.ensures.keeps; workspace = c.rollback.ensures.clear; output = refl }) (ap (λ q. line_of q c.args.program.now c.args.ancillae.now c.args.value.now) (sym c.in-RollsBack.is)) refl)
+returns-in-Rollback c =
+    let e = c.in-Ok.is ∙ ap Ok c.in-Rollback.is in
+    (replies_as (record { told = c.rollback.ensures.answer; value = c.rollback.ensures.keeps; workspace = c.rollback.ensures.clear; output = refl }) (ap (λ q. line_of q c.args.program.now c.args.ancillae.now c.args.value.now) (sym e)) refl)
 
-pub returns-in-Reads : goal.returns-in-Reads
+pub returns-in-Read : goal.returns-in-Read
 unfolding answer_to workspace_after output_after journal_after
-returns-in-Reads c =
-    (replies_as (record { told = c.read.ensures.answer; value = refl; workspace = refl; output = c.read.ensures.fills }) (ap (λ q. line_of q c.args.program.now c.args.ancillae.now c.args.value.now) (sym c.in-Reads.is)) refl)
+returns-in-Read c =
+    let e = c.in-Ok.is ∙ ap Ok c.in-Read.is in
+    (replies_as (record { told = c.read.ensures.answer; value = refl; workspace = refl; output = c.read.ensures.fills }) (ap (λ q. line_of q c.args.program.now c.args.ancillae.now c.args.value.now) (sym e)) refl)
 
 pub returns-in-NoCall : goal.returns-in-NoCall
 unfolding answer_to workspace_after output_after journal_after
 returns-in-NoCall c =
-    (replies_as (record { told = c.put.ensures; value = refl; workspace = refl; output = refl }) (ap (λ q. line_of q c.args.program.now c.args.ancillae.now c.args.value.now) (sym c.in-NoCall.is)) refl)
+    let e = c.in-Err.is ∙ ap Err c.in-NoCall.is in
+    (replies_as (record { told = c.put.ensures; value = refl; workspace = refl; output = refl }) (ap (λ q. line_of q c.args.program.now c.args.ancillae.now c.args.value.now) (sym e)) refl)
 
 pub returns-in-WordCount : goal.returns-in-WordCount
 unfolding answer_to workspace_after output_after journal_after
 returns-in-WordCount c =
-    (replies_as (record { told = c.put-in-WordCount.ensures; value = refl; workspace = refl; output = refl }) (ap (λ q. line_of q c.args.program.now c.args.ancillae.now c.args.value.now) (sym c.in-WordCount.is)) refl)
+    let e = c.in-Err.is ∙ ap Err c.in-WordCount.is in
+    (replies_as (record { told = c.put-in-WordCount.ensures; value = refl; workspace = refl; output = refl }) (ap (λ q. line_of q c.args.program.now c.args.ancillae.now c.args.value.now) (sym e)) refl)
 
 pub returns-in-NoNumber : goal.returns-in-NoNumber
 unfolding answer_to workspace_after output_after journal_after
 returns-in-NoNumber c =
-    (replies_as (record { told = c.word_error.ensures; value = refl; workspace = refl; output = refl }) (ap (λ q. line_of q c.args.program.now c.args.ancillae.now c.args.value.now) (sym c.in-NoNumber.is)) refl)
+    let e = c.in-Err.is ∙ ap Err c.in-NoNumber.is in
+    (replies_as (record { told = c.word_error.ensures; value = refl; workspace = refl; output = refl }) (ap (λ q. line_of q c.args.program.now c.args.ancillae.now c.args.value.now) (sym e)) refl)
 
 pub returns-in-NoBytes : goal.returns-in-NoBytes
 unfolding answer_to workspace_after output_after journal_after
 returns-in-NoBytes c =
-    (replies_as (record { told = c.word_error-in-NoBytes.ensures; value = refl; workspace = refl; output = refl }) (ap (λ q. line_of q c.args.program.now c.args.ancillae.now c.args.value.now) (sym c.in-NoBytes.is)) refl)
+    let e = c.in-Err.is ∙ ap Err c.in-NoBytes.is in
+    (replies_as (record { told = c.word_error-in-NoBytes.ensures; value = refl; workspace = refl; output = refl }) (ap (λ q. line_of q c.args.program.now c.args.ancillae.now c.args.value.now) (sym e)) refl)

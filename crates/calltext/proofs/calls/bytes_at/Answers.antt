@@ -1,13 +1,6 @@
-use native.Mathlib.Omega.{arith}
-use mathlib.Core.Path.{ap}
-use lib.ListN.{length}
+use Rattle.std.proofs.Common.{ap, length, arith}
 use Rattle.calltext.proofs.Saying.{word_shorter}
 use Rattle.calltext.proofs.calls.bytes_at.Goals as goal
 
 pub decode-requires : goal.decode-requires
-decode-requires c =
-    omega (arith, c.requires, ap length c.word.ensures, word_shorter c.args.k c.args.line.now)
-
-pub returns : goal.returns
-returns c =
-    rw c.word.ensures at c.decode.ensures
+decode-requires c = omega (arith, c.requires, ap length c.word.ensures, word_shorter c.args.k c.args.line.now)

@@ -1,33 +1,33 @@
-use mathlib.Core.Path.{refl, sym, ◌∙◌}
-use Rattle.calltext.specs.Calls.{read_check}
-use Rattle.calltext.proofs.Saying.{told-number, told-no-number, told-bytes, told-no-bytes, bytes-within, counted, miscounted, parses, unread}
-use Rattle.calltext.proofs.Arguments.{pair_1, pair_2, pair-all}
+use Rattle.std.proofs.Common.{refl}
+use Rattle.calltext.specs.Calls.{with_number, with_bytes, read_check, read_pair, of_length}
+use Rattle.calltext.proofs.Saying.{given, missing, counts, miscounts, argument, no_argument, parses, fails, unread}
 use Rattle.calltext.proofs.calls.check_call.Goals as goal
 
-pub returns-then-count-ne2 : goal.returns-then-count-ne2
-returns-then-count-ne2 c =
-    λ anc v. parses (miscounted _ _ _ λ e. c.if-count-ne2.true (c.count_spaces-count.ensures ∙ e)) tt (unread _ λ k. refl)
+pub returns-in_err-counted : goal.returns-in_err-counted
+unfolding of_length
+returns-in_err-counted c =
+    let m = miscounts _ _ c.in_err-counted.ensures in
+    λ anc v. fails c.from_residual.ensures.1 m.1 (parses (rw m.0) tt (unread _ λ k. refl))
 
-pub returns-in_default : goal.returns-in_default
-unfolding read_check
-returns-in_default c =
-    let counts = sym c.count_spaces-count.ensures ∙ c.if-count-ne2.false in
-    λ anc v. parses (pair_1 _ _ (told-no-number c.number_at.ensures c.in_default.is) ∙ counted _ _ _ counts) tt
-    (unread _ λ k. refl)
+pub returns-in_err-length_at : goal.returns-in_err-length_at
+unfolding of_length read_check read_pair with_number
+returns-in_err-length_at c =
+    let m = missing _ _ c.in_err-length_at.ensures in
+    λ anc v. fails c.from_residual-in_err-length_at.ensures.1 m.1
+    (parses (rw (counts _ _ c.in_ok-counted.ensures, m.0)) tt
+    (unread _ λ k. refl))
 
-pub returns-in_default-bytes_at : goal.returns-in_default-bytes_at
-unfolding read_check
-returns-in_default-bytes_at c =
-    let counts = sym c.count_spaces-count.ensures ∙ c.if-count-ne2.false in
-    λ anc v. parses (pair_2 _ _ (told-number c.number_at.ensures c.in-Is.is)
-    (told-no-bytes c.bytes_at.ensures c.in_default-bytes_at.is) ∙ counted _ _ _ counts) tt
-    (record { program = c.bytes_at.ensures.left; ancillae = refl; value = refl })
+pub returns-in_err-bytes_at : goal.returns-in_err-bytes_at
+unfolding of_length read_check read_pair with_number with_bytes
+returns-in_err-bytes_at c =
+    let m = no_argument c.in_err-bytes_at.ensures in
+    λ anc v. fails c.from_residual-in_err-bytes_at.ensures.1 m.1
+    (parses (rw (counts _ _ c.in_ok-counted.ensures, given _ _ c.in_ok-length_at.ensures, m.0)) tt
+    (record { program = c.in_err-bytes_at.ensures.decodes.left; ancillae = refl; value = refl }))
 
 pub returns : goal.returns
-unfolding read_check
+unfolding of_length read_check read_pair with_number with_bytes
 returns c =
-    let counts = sym c.count_spaces-count.ensures ∙ c.if-count-ne2.false in
-    λ anc v. parses (pair-all _ _ (told-number c.number_at.ensures c.in-Is.is)
-    (told-bytes c.bytes_at.ensures c.in-Bytes.is) ∙ counted _ _ _ counts)
-    (bytes-within c.bytes_at.ensures c.in-Bytes.is)
-    (record { program = c.bytes_at.ensures.left; ancillae = refl; value = refl })
+    λ anc v. parses (rw (counts _ _ c.in_ok-counted.ensures, given _ _ c.in_ok-length_at.ensures, (argument c.in_ok-bytes_at.ensures).0))
+    ((argument c.in_ok-bytes_at.ensures).1)
+    (record { program = c.in_ok-bytes_at.ensures.decodes.left; ancillae = refl; value = refl })

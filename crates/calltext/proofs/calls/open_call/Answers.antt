@@ -1,48 +1,49 @@
-use mathlib.Core.Path.{refl, sym, ◌∙◌}
-use Rattle.calltext.proofs.Saying.{told-number, told-no-number, told-bytes, told-no-bytes, bytes-within, counted, miscounted, parses, unread}
-use Rattle.calltext.proofs.Arguments.{open_1, open_2, open_3, open_4, open_all}
+use Rattle.std.proofs.Common.{refl}
+use Rattle.calltext.specs.Calls.{with_number, with_bytes, read_open, of_length}
+use Rattle.calltext.proofs.Saying.{given, missing, counts, miscounts, argument, no_argument, parses, fails, unread}
 use Rattle.calltext.proofs.calls.open_call.Goals as goal
 
-pub returns-then-count-ne4 : goal.returns-then-count-ne4
-returns-then-count-ne4 c =
-    parses (miscounted _ _ _ λ e. c.if-count-ne4.true (c.count_spaces-count.ensures ∙ e)) tt
-    (unread _ λ k. refl)
+pub returns-in_err-counted : goal.returns-in_err-counted
+unfolding of_length
+returns-in_err-counted c =
+    let m = miscounts _ _ c.in_err-counted.ensures in
+    fails c.from_residual.ensures.1 m.1 (parses (rw m.0) tt (unread _ λ k. refl))
 
-pub returns-in_default : goal.returns-in_default
-returns-in_default c =
-    parses (open_1 _ (told-no-number c.number_at.ensures c.in_default.is) ∙ counted _ _ _
-    (sym c.count_spaces-count.ensures ∙ c.if-count-ne4.false)) tt (unread _ λ k. refl)
+pub returns-in_err-length_at : goal.returns-in_err-length_at
+unfolding of_length read_open with_number
+returns-in_err-length_at c =
+    let m = missing _ _ c.in_err-length_at.ensures in
+    fails c.from_residual-in_err-length_at.ensures.1 m.1
+    (parses (rw (counts _ _ c.in_ok-counted.ensures, m.0)) tt
+    (unread _ λ k. refl))
 
-pub returns-in_default-bytes_at : goal.returns-in_default-bytes_at
-returns-in_default-bytes_at c =
-    parses (open_2 _ (told-number c.number_at.ensures c.in-Is.is)
-    (told-no-bytes c.bytes_at.ensures c.in_default-bytes_at.is) ∙ counted _ _ _
-    (sym c.count_spaces-count.ensures ∙ c.if-count-ne4.false)) tt
-    (record { program = c.bytes_at.ensures.left; ancillae = refl; value = refl })
+pub returns-in_err-bytes_at : goal.returns-in_err-bytes_at
+unfolding of_length read_open with_number with_bytes
+returns-in_err-bytes_at c =
+    let m = no_argument c.in_err-bytes_at.ensures in
+    fails c.from_residual-in_err-bytes_at.ensures.1 m.1
+    (parses (rw (counts _ _ c.in_ok-counted.ensures, given _ _ c.in_ok-length_at.ensures, m.0)) tt
+    (record { program = c.in_err-bytes_at.ensures.decodes.left; ancillae = refl; value = refl }))
 
-pub returns-in_default-bytes_at-2 : goal.returns-in_default-bytes_at-2
-returns-in_default-bytes_at-2 c =
-    parses (open_3 _ (told-number c.number_at.ensures c.in-Is.is)
-    (told-bytes c.bytes_at.ensures c.in-Bytes.is) (told-no-bytes c.bytes_at-2.ensures c.in_default-bytes_at-2.is)
-    ∙ counted _ _ _ (sym c.count_spaces-count.ensures ∙ c.if-count-ne4.false)) tt
-    (record { program = c.bytes_at.ensures.left; ancillae = c.bytes_at-2.ensures.left; value = refl })
+pub returns-in_err-bytes_at-2 : goal.returns-in_err-bytes_at-2
+unfolding of_length read_open with_number with_bytes
+returns-in_err-bytes_at-2 c =
+    let m = no_argument c.in_err-bytes_at-2.ensures in
+    fails c.from_residual-in_err-bytes_at-2.ensures.1 m.1
+    (parses (rw (counts _ _ c.in_ok-counted.ensures, given _ _ c.in_ok-length_at.ensures, (argument c.in_ok-bytes_at.ensures).0, m.0)) tt
+    (record { program = c.in_ok-bytes_at.ensures.decodes.left; ancillae = c.in_err-bytes_at-2.ensures.decodes.left; value = refl }))
 
-pub returns-in_default-bytes_at-3 : goal.returns-in_default-bytes_at-3
-returns-in_default-bytes_at-3 c =
-    parses (open_4 _ (told-number c.number_at.ensures c.in-Is.is)
-    (told-bytes c.bytes_at.ensures c.in-Bytes.is) (told-bytes c.bytes_at-2.ensures c.in-Bytes-bytes_at.is)
-    (told-no-bytes c.bytes_at-3.ensures c.in_default-bytes_at-3.is) ∙ counted _ _ _
-    (sym c.count_spaces-count.ensures ∙ c.if-count-ne4.false)) tt
-    (record { program = c.bytes_at.ensures.left; ancillae = c.bytes_at-2.ensures.left; value = c.bytes_at-3.ensures.left })
+pub returns-in_err-bytes_at-3 : goal.returns-in_err-bytes_at-3
+unfolding of_length read_open with_number with_bytes
+returns-in_err-bytes_at-3 c =
+    let m = no_argument c.in_err-bytes_at-3.ensures in
+    fails c.from_residual-in_err-bytes_at-3.ensures.1 m.1
+    (parses (rw (counts _ _ c.in_ok-counted.ensures, given _ _ c.in_ok-length_at.ensures, (argument c.in_ok-bytes_at.ensures).0, (argument c.in_ok-bytes_at-2.ensures).0, m.0)) tt
+    (record { program = c.in_ok-bytes_at.ensures.decodes.left; ancillae = c.in_ok-bytes_at-2.ensures.decodes.left; value = c.in_err-bytes_at-3.ensures.decodes.left }))
 
 pub returns : goal.returns
+unfolding of_length read_open with_number with_bytes
 returns c =
-    parses (open_all _ (told-number c.number_at.ensures c.in-Is.is)
-    (told-bytes c.bytes_at.ensures c.in-Bytes.is) (told-bytes c.bytes_at-2.ensures c.in-Bytes-bytes_at.is)
-    (told-bytes c.bytes_at-3.ensures c.in-Bytes-bytes_at-2.is) ∙ counted _ _ _
-    (sym c.count_spaces-count.ensures ∙ c.if-count-ne4.false)) (
-      bytes-within c.bytes_at.ensures c.in-Bytes.is,
-      bytes-within c.bytes_at-2.ensures c.in-Bytes-bytes_at.is,
-      bytes-within c.bytes_at-3.ensures c.in-Bytes-bytes_at-2.is,
-    )
-    (record { program = c.bytes_at.ensures.left; ancillae = c.bytes_at-2.ensures.left; value = c.bytes_at-3.ensures.left })
+    parses (rw (counts _ _ c.in_ok-counted.ensures, given _ _ c.in_ok-length_at.ensures, (argument c.in_ok-bytes_at.ensures).0, (argument c.in_ok-bytes_at-2.ensures).0, (argument c.in_ok-bytes_at-3.ensures).0))
+    ((argument c.in_ok-bytes_at.ensures).1, (argument c.in_ok-bytes_at-2.ensures).1, (argument c.in_ok-bytes_at-3.ensures).1)
+    (record { program = c.in_ok-bytes_at.ensures.decodes.left; ancillae = c.in_ok-bytes_at-2.ensures.decodes.left; value = c.in_ok-bytes_at-3.ensures.decodes.left })

@@ -1,55 +1,50 @@
-use native.Mathlib.Omega.{arith}
-use mathlib.Core.Path.{refl, sym, ◌∙◌}
+use Rattle.std.proofs.Common.{refl}
 use Rattle.rules.specs.Limits.{max_fuel}
-use Rattle.calltext.proofs.Saying.{told-number, told-no-number, told-bytes, told-no-bytes, number-within, bytes-within, counted, miscounted, parses, unread}
-use Rattle.calltext.proofs.Arguments.{rollback_1, rollback_2, rollback_3, rollback_4, rollback_all}
+use Rattle.calltext.specs.Calls.{with_number, with_bytes, read_rollback, of_length}
+use Rattle.calltext.proofs.Saying.{given, missing, counts, miscounts, argument, no_argument, parses, fails, unread}
 use Rattle.calltext.proofs.calls.rollback_call.Goals as goal
 
-pub returns-then-count-ne4 : goal.returns-then-count-ne4
-returns-then-count-ne4 c =
-    λ anc. parses (miscounted _ _ _ λ e. c.if-count-ne4.true (c.count_spaces-count.ensures ∙ e)) tt
-    (unread _ λ k. refl)
+pub returns-in_err-counted : goal.returns-in_err-counted
+unfolding of_length
+returns-in_err-counted c =
+    let m = miscounts _ _ c.in_err-counted.ensures in
+    λ anc. fails c.from_residual.ensures.1 m.1 (parses (rw m.0) tt (unread _ λ k. refl))
 
-pub returns-in_default : goal.returns-in_default
-returns-in_default c =
-    λ anc. parses (rollback_1 _ (told-no-number c.number_at.ensures c.in_default.is) ∙ counted _ _ _
-    (sym c.count_spaces-count.ensures ∙ c.if-count-ne4.false)) tt (unread _ λ k. refl)
+pub returns-in_err-length_at : goal.returns-in_err-length_at
+unfolding of_length read_rollback with_number max_fuel
+returns-in_err-length_at c =
+    let m = missing _ _ c.in_err-length_at.ensures in
+    λ anc. fails c.from_residual-in_err-length_at.ensures.1 m.1
+    (parses (rw (counts _ _ c.in_ok-counted.ensures, m.0)) tt
+    (unread _ λ k. refl))
 
-pub returns-in_default-number_at : goal.returns-in_default-number_at
-unfolding max_fuel
-returns-in_default-number_at c =
-    λ anc. parses (rollback_2 _ (told-number c.number_at.ensures c.in-Is.is)
-    (told-no-number c.number_at-2.ensures c.in_default-number_at.is) ∙ counted _ _ _
-    (sym c.count_spaces-count.ensures ∙ c.if-count-ne4.false)) tt (unread _ λ k. refl)
+pub returns-in_err-short_at : goal.returns-in_err-short_at
+unfolding of_length read_rollback with_number max_fuel
+returns-in_err-short_at c =
+    let m = missing _ _ c.in_err-short_at.ensures in
+    λ anc. fails c.from_residual-in_err-short_at.ensures.1 m.1
+    (parses (rw (counts _ _ c.in_ok-counted.ensures, given _ _ c.in_ok-length_at.ensures, m.0)) tt
+    (unread _ λ k. refl))
 
-pub returns-in_default-bytes_at : goal.returns-in_default-bytes_at
-unfolding max_fuel
-returns-in_default-bytes_at c =
-    λ anc. parses (rollback_3 _ (told-number c.number_at.ensures c.in-Is.is)
-    (told-number c.number_at-2.ensures c.in-Is-number_at.is)
-    (told-no-bytes c.bytes_at.ensures c.in_default-bytes_at.is) ∙ counted _ _ _
-    (sym c.count_spaces-count.ensures ∙ c.if-count-ne4.false)) tt
-    (record { program = c.bytes_at.ensures.left; ancillae = refl; value = refl })
+pub returns-in_err-bytes_at : goal.returns-in_err-bytes_at
+unfolding of_length read_rollback with_number with_bytes max_fuel
+returns-in_err-bytes_at c =
+    let m = no_argument c.in_err-bytes_at.ensures in
+    λ anc. fails c.from_residual-in_err-bytes_at.ensures.1 m.1
+    (parses (rw (counts _ _ c.in_ok-counted.ensures, given _ _ c.in_ok-length_at.ensures, given _ _ c.in_ok-short_at.ensures, m.0)) tt
+    (record { program = c.in_err-bytes_at.ensures.decodes.left; ancillae = refl; value = refl }))
 
-pub returns-in_default-bytes_at-2 : goal.returns-in_default-bytes_at-2
-unfolding max_fuel
-returns-in_default-bytes_at-2 c =
-    λ anc. parses (rollback_4 _ (told-number c.number_at.ensures c.in-Is.is)
-    (told-number c.number_at-2.ensures c.in-Is-number_at.is) (told-bytes c.bytes_at.ensures c.in-Bytes.is)
-    (told-no-bytes c.bytes_at-2.ensures c.in_default-bytes_at-2.is) ∙ counted _ _ _
-    (sym c.count_spaces-count.ensures ∙ c.if-count-ne4.false)) tt
-    (record { program = c.bytes_at.ensures.left; ancillae = refl; value = c.bytes_at-2.ensures.left })
-
-pub overflow_cast-result : goal.overflow_cast-result
-overflow_cast-result c =
-    record { fits = omega (arith, number-within c.number_at-2.ensures c.in-Is-number_at.is) }
+pub returns-in_err-bytes_at-2 : goal.returns-in_err-bytes_at-2
+unfolding of_length read_rollback with_number with_bytes max_fuel
+returns-in_err-bytes_at-2 c =
+    let m = no_argument c.in_err-bytes_at-2.ensures in
+    λ anc. fails c.from_residual-in_err-bytes_at-2.ensures.1 m.1
+    (parses (rw (counts _ _ c.in_ok-counted.ensures, given _ _ c.in_ok-length_at.ensures, given _ _ c.in_ok-short_at.ensures, (argument c.in_ok-bytes_at.ensures).0, m.0)) tt
+    (record { program = c.in_ok-bytes_at.ensures.decodes.left; ancillae = refl; value = c.in_err-bytes_at-2.ensures.decodes.left }))
 
 pub returns : goal.returns
-unfolding max_fuel
+unfolding of_length read_rollback with_number with_bytes max_fuel
 returns c =
-    λ anc. parses (rollback_all _ (told-number c.number_at.ensures c.in-Is.is)
-    (told-number c.number_at-2.ensures c.in-Is-number_at.is) (told-bytes c.bytes_at.ensures c.in-Bytes.is)
-    (told-bytes c.bytes_at-2.ensures c.in-Bytes-bytes_at.is) ∙ counted _ _ _
-    (sym c.count_spaces-count.ensures ∙ c.if-count-ne4.false))
-    (bytes-within c.bytes_at.ensures c.in-Bytes.is, bytes-within c.bytes_at-2.ensures c.in-Bytes-bytes_at.is)
-    (record { program = c.bytes_at.ensures.left; ancillae = refl; value = c.bytes_at-2.ensures.left })
+    λ anc. parses (rw (counts _ _ c.in_ok-counted.ensures, given _ _ c.in_ok-length_at.ensures, given _ _ c.in_ok-short_at.ensures, (argument c.in_ok-bytes_at.ensures).0, (argument c.in_ok-bytes_at-2.ensures).0))
+    ((argument c.in_ok-bytes_at.ensures).1, (argument c.in_ok-bytes_at-2.ensures).1)
+    (record { program = c.in_ok-bytes_at.ensures.decodes.left; ancillae = refl; value = c.in_ok-bytes_at-2.ensures.decodes.left })

@@ -1,104 +1,74 @@
-use native.Mathlib.Omega.{arith}
-use mathlib.Core.Path.{refl, sym, ◌∙◌}
+use Rattle.std.proofs.Common.{refl}
 use Rattle.rules.specs.Limits.{max_fuel}
-use Rattle.calltext.proofs.Saying.{told-number, told-no-number, told-bytes, told-no-bytes, number-within, bytes-within, counted, miscounted, parses, unread}
-use Rattle.calltext.proofs.Arguments.{run_1, run_2, run_3, run_4, run_5, run_6, run_7, run-all}
+use Rattle.calltext.specs.Calls.{with_number, with_bytes, read_run, of_length}
+use Rattle.calltext.proofs.Saying.{given, missing, counts, miscounts, argument, no_argument, parses, fails, unread}
 use Rattle.calltext.proofs.calls.run_call.Goals as goal
 
-pub returns-then-count-ne7 : goal.returns-then-count-ne7
-returns-then-count-ne7 c =
-    parses (miscounted _ _ _ λ e. c.if-count-ne7.true (c.count_spaces-count.ensures ∙ e)) tt (unread _ λ k. refl)
+pub returns-in_err-counted : goal.returns-in_err-counted
+unfolding of_length
+returns-in_err-counted c =
+    let m = miscounts _ _ c.in_err-counted.ensures in
+    fails c.from_residual.ensures.1 m.1 (parses (rw m.0) tt (unread _ λ k. refl))
 
-pub returns-in_default : goal.returns-in_default
-returns-in_default c =
-    let counts = sym c.count_spaces-count.ensures ∙ c.if-count-ne7.false in
-    parses (run_1 _ _ (told-no-number c.number_at.ensures c.in_default.is) ∙ counted _ _ _ counts) tt (unread _ λ k. refl)
+pub returns-in_err-length_at : goal.returns-in_err-length_at
+unfolding of_length read_run with_number max_fuel
+returns-in_err-length_at c =
+    let m = missing _ _ c.in_err-length_at.ensures in
+    fails c.from_residual-in_err-length_at.ensures.1 m.1
+    (parses (rw (counts _ _ c.in_ok-counted.ensures, m.0)) tt
+    (unread _ λ k. refl))
 
-pub returns-in_default-number_at : goal.returns-in_default-number_at
-returns-in_default-number_at c =
-    let counts = sym c.count_spaces-count.ensures ∙ c.if-count-ne7.false in
-    parses (run_2 _ _ (told-number c.number_at.ensures c.in-Is.is)
-    (told-no-number c.number_at-2.ensures c.in_default-number_at.is) ∙ counted _ _ _ counts) tt (unread _ λ k. refl)
+pub returns-in_err-length_at-2 : goal.returns-in_err-length_at-2
+unfolding of_length read_run with_number max_fuel
+returns-in_err-length_at-2 c =
+    let m = missing _ _ c.in_err-length_at-2.ensures in
+    fails c.from_residual-in_err-length_at-2.ensures.1 m.1
+    (parses (rw (counts _ _ c.in_ok-counted.ensures, given _ _ c.in_ok-length_at.ensures, m.0)) tt
+    (unread _ λ k. refl))
 
-pub returns-in_default-number_at-2 : goal.returns-in_default-number_at-2
-unfolding max_fuel
-returns-in_default-number_at-2 c =
-    let counts = sym c.count_spaces-count.ensures ∙ c.if-count-ne7.false in
-    parses (run_3 _ _ (told-number c.number_at.ensures c.in-Is.is)
-    (told-number c.number_at-2.ensures c.in-Is-number_at.is)
-    (told-no-number c.number_at-3.ensures c.in_default-number_at-2.is) ∙ counted _ _ _ counts) tt (unread _ λ k. refl)
+pub returns-in_err-short_at : goal.returns-in_err-short_at
+unfolding of_length read_run with_number max_fuel
+returns-in_err-short_at c =
+    let m = missing _ _ c.in_err-short_at.ensures in
+    fails c.from_residual-in_err-short_at.ensures.1 m.1
+    (parses (rw (counts _ _ c.in_ok-counted.ensures, given _ _ c.in_ok-length_at.ensures, given _ _ c.in_ok-length_at-2.ensures, m.0)) tt
+    (unread _ λ k. refl))
 
-pub returns-in_default-number_at-3 : goal.returns-in_default-number_at-3
-unfolding max_fuel
-returns-in_default-number_at-3 c =
-    let counts = sym c.count_spaces-count.ensures ∙ c.if-count-ne7.false in
-    parses (run_4 _ _ (told-number c.number_at.ensures c.in-Is.is)
-    (told-number c.number_at-2.ensures c.in-Is-number_at.is)
-    (told-number c.number_at-3.ensures c.in-Is-number_at-2.is)
-    (told-no-number c.number_at-4.ensures c.in_default-number_at-3.is) ∙ counted _ _ _ counts) tt (unread _ λ k. refl)
+pub returns-in_err-short_at-2 : goal.returns-in_err-short_at-2
+unfolding of_length read_run with_number max_fuel
+returns-in_err-short_at-2 c =
+    let m = missing _ _ c.in_err-short_at-2.ensures in
+    fails c.from_residual-in_err-short_at-2.ensures.1 m.1
+    (parses (rw (counts _ _ c.in_ok-counted.ensures, given _ _ c.in_ok-length_at.ensures, given _ _ c.in_ok-length_at-2.ensures, given _ _ c.in_ok-short_at.ensures, m.0)) tt
+    (unread _ λ k. refl))
 
-pub returns-in_default-bytes_at : goal.returns-in_default-bytes_at
-unfolding max_fuel
-returns-in_default-bytes_at c =
-    let counts = sym c.count_spaces-count.ensures ∙ c.if-count-ne7.false in
-    parses (run_5 _ _ (told-number c.number_at.ensures c.in-Is.is)
-    (told-number c.number_at-2.ensures c.in-Is-number_at.is)
-    (told-number c.number_at-3.ensures c.in-Is-number_at-2.is)
-    (told-number c.number_at-4.ensures c.in-Is-number_at-3.is)
-    (told-no-bytes c.bytes_at.ensures c.in_default-bytes_at.is) ∙ counted _ _ _ counts) tt
-    (record { program = c.bytes_at.ensures.left; ancillae = refl; value = refl })
+pub returns-in_err-bytes_at : goal.returns-in_err-bytes_at
+unfolding of_length read_run with_number with_bytes max_fuel
+returns-in_err-bytes_at c =
+    let m = no_argument c.in_err-bytes_at.ensures in
+    fails c.from_residual-in_err-bytes_at.ensures.1 m.1
+    (parses (rw (counts _ _ c.in_ok-counted.ensures, given _ _ c.in_ok-length_at.ensures, given _ _ c.in_ok-length_at-2.ensures, given _ _ c.in_ok-short_at.ensures, given _ _ c.in_ok-short_at-2.ensures, m.0)) tt
+    (record { program = c.in_err-bytes_at.ensures.decodes.left; ancillae = refl; value = refl }))
 
-pub bytes_at-requires-2 : goal.bytes_at-requires-2
-bytes_at-requires-2 c =
-    omega (arith, c.requires.line_len_bound_2, c.requires.line_len_bound_3)
+pub returns-in_err-bytes_at-2 : goal.returns-in_err-bytes_at-2
+unfolding of_length read_run with_number with_bytes max_fuel
+returns-in_err-bytes_at-2 c =
+    let m = no_argument c.in_err-bytes_at-2.ensures in
+    fails c.from_residual-in_err-bytes_at-2.ensures.1 m.1
+    (parses (rw (counts _ _ c.in_ok-counted.ensures, given _ _ c.in_ok-length_at.ensures, given _ _ c.in_ok-length_at-2.ensures, given _ _ c.in_ok-short_at.ensures, given _ _ c.in_ok-short_at-2.ensures, (argument c.in_ok-bytes_at.ensures).0, m.0)) tt
+    (record { program = c.in_ok-bytes_at.ensures.decodes.left; ancillae = c.in_err-bytes_at-2.ensures.decodes.left; value = refl }))
 
-pub returns-in_default-bytes_at-2 : goal.returns-in_default-bytes_at-2
-unfolding max_fuel
-returns-in_default-bytes_at-2 c =
-    let counts = sym c.count_spaces-count.ensures ∙ c.if-count-ne7.false in
-    parses (run_6 _ _ (told-number c.number_at.ensures c.in-Is.is)
-    (told-number c.number_at-2.ensures c.in-Is-number_at.is)
-    (told-number c.number_at-3.ensures c.in-Is-number_at-2.is)
-    (told-number c.number_at-4.ensures c.in-Is-number_at-3.is)
-    (told-bytes c.bytes_at.ensures c.in-Bytes.is) (told-no-bytes c.bytes_at-2.ensures c.in_default-bytes_at-2.is) ∙ counted _ _ _ counts) tt
-    (record { program = c.bytes_at.ensures.left; ancillae = c.bytes_at-2.ensures.left; value = refl })
-
-pub bytes_at-requires-3 : goal.bytes_at-requires-3
-bytes_at-requires-3 c =
-    omega (arith, c.requires.line_len_bound_2, c.requires.line_len_bound_3)
-
-pub returns-in_default-bytes_at-3 : goal.returns-in_default-bytes_at-3
-unfolding max_fuel
-returns-in_default-bytes_at-3 c =
-    let counts = sym c.count_spaces-count.ensures ∙ c.if-count-ne7.false in
-    parses (run_7 _ _ (told-number c.number_at.ensures c.in-Is.is)
-    (told-number c.number_at-2.ensures c.in-Is-number_at.is)
-    (told-number c.number_at-3.ensures c.in-Is-number_at-2.is)
-    (told-number c.number_at-4.ensures c.in-Is-number_at-3.is)
-    (told-bytes c.bytes_at.ensures c.in-Bytes.is) (told-bytes c.bytes_at-2.ensures c.in-Bytes-bytes_at.is)
-    (told-no-bytes c.bytes_at-3.ensures c.in_default-bytes_at-3.is) ∙ counted _ _ _ counts) tt
-    (record { program = c.bytes_at.ensures.left; ancillae = c.bytes_at-2.ensures.left; value = c.bytes_at-3.ensures.left })
-
-pub overflow_cast-result : goal.overflow_cast-result
-overflow_cast-result c =
-    record { fits = omega (arith, number-within c.number_at-3.ensures c.in-Is-number_at-2.is) }
-
-pub overflow_cast-result-2 : goal.overflow_cast-result-2
-overflow_cast-result-2 c =
-    record { fits = omega (arith, number-within c.number_at-4.ensures c.in-Is-number_at-3.is) }
+pub returns-in_err-bytes_at-3 : goal.returns-in_err-bytes_at-3
+unfolding of_length read_run with_number with_bytes max_fuel
+returns-in_err-bytes_at-3 c =
+    let m = no_argument c.in_err-bytes_at-3.ensures in
+    fails c.from_residual-in_err-bytes_at-3.ensures.1 m.1
+    (parses (rw (counts _ _ c.in_ok-counted.ensures, given _ _ c.in_ok-length_at.ensures, given _ _ c.in_ok-length_at-2.ensures, given _ _ c.in_ok-short_at.ensures, given _ _ c.in_ok-short_at-2.ensures, (argument c.in_ok-bytes_at.ensures).0, (argument c.in_ok-bytes_at-2.ensures).0, m.0)) tt
+    (record { program = c.in_ok-bytes_at.ensures.decodes.left; ancillae = c.in_ok-bytes_at-2.ensures.decodes.left; value = c.in_err-bytes_at-3.ensures.decodes.left }))
 
 pub returns : goal.returns
-unfolding max_fuel
+unfolding of_length read_run with_number with_bytes max_fuel
 returns c =
-    let counts = sym c.count_spaces-count.ensures ∙ c.if-count-ne7.false in
-    parses (run-all _ _ (told-number c.number_at.ensures c.in-Is.is)
-    (told-number c.number_at-2.ensures c.in-Is-number_at.is)
-    (told-number c.number_at-3.ensures c.in-Is-number_at-2.is)
-    (told-number c.number_at-4.ensures c.in-Is-number_at-3.is)
-    (told-bytes c.bytes_at.ensures c.in-Bytes.is) (told-bytes c.bytes_at-2.ensures c.in-Bytes-bytes_at.is)
-    (told-bytes c.bytes_at-3.ensures c.in-Bytes-bytes_at-2.is) ∙ counted _ _ _ counts) (
-      bytes-within c.bytes_at.ensures c.in-Bytes.is,
-      bytes-within c.bytes_at-2.ensures c.in-Bytes-bytes_at.is,
-      bytes-within c.bytes_at-3.ensures c.in-Bytes-bytes_at-2.is,
-    )
-    (record { program = c.bytes_at.ensures.left; ancillae = c.bytes_at-2.ensures.left; value = c.bytes_at-3.ensures.left })
+    parses (rw (counts _ _ c.in_ok-counted.ensures, given _ _ c.in_ok-length_at.ensures, given _ _ c.in_ok-length_at-2.ensures, given _ _ c.in_ok-short_at.ensures, given _ _ c.in_ok-short_at-2.ensures, (argument c.in_ok-bytes_at.ensures).0, (argument c.in_ok-bytes_at-2.ensures).0, (argument c.in_ok-bytes_at-3.ensures).0))
+    ((argument c.in_ok-bytes_at.ensures).1, (argument c.in_ok-bytes_at-2.ensures).1, (argument c.in_ok-bytes_at-3.ensures).1)
+    (record { program = c.in_ok-bytes_at.ensures.decodes.left; ancillae = c.in_ok-bytes_at-2.ensures.decodes.left; value = c.in_ok-bytes_at-3.ensures.decodes.left })

@@ -1,71 +1,31 @@
-use Prim.Native.Nat.{ℕ, ◌≤◌, ◌*◌}
-use native.Mathlib.Omega.{arith}
-use mathlib.Core.Path.{◌≡◌, refl}
-use mathlib.Core.List.{List}
-use lib.ListN.{length, length-set}
-use Rattle.calltext.proofs.Digits.{Decoding, decoding, stops-odd, stops_high, stops-low, decodes-more, decoded}
+use Rattle.std.proofs.Common.{◌≤◌, length, refl, arith, rules}
+use Rattle.std.proofs.lemmas.List.{take_rest}
+use Rattle.calltext.proofs.Digits.{decoding, ends, stops_high, stops-low, decodes-more}
 use Rattle.calltext.proofs.hexadecimal.pairs.Goals as goal
 
 -- Two digits a turn become a byte; the invariant is proofs/Digits' Decoding.
 
--- the bytes made so far are within the buffer
-room : {w before out : List ℕ} {i n : ℕ} → length w ≤ 2 * length before → length out ≡ length before → Decoding w before out i n → n ≤ length out
-room h e d = omega (arith, h, e, d.even, d.within)
+pub loop-left-init : goal.loop-left-init
+loop-left-init c = record { room = c.requires; kept = refl; decodes = decoding _ _ }
 
-pub loop-i-init : goal.loop-i-init
-loop-i-init c =
-    (c.requires, refl, decoding _ _)
+pub returns-in_err-digit : goal.returns-in_err-digit
+returns-in_err-digit c =
+    let room : c.loop-left.n ≤ length c.loop-left.out = omega (arith, c.loop-left.invariant.decodes.size) in
+    rw c.from_residual.ensures (stops_high c.loop-left.invariant.decodes c.in-len2-up.len_at_least room c.in_err-digit.ensures)
 
-pub shape_of-out-then-word-j : goal.shape_of-out-then-word-j
-shape_of-out-then-word-j c =
-    c.loop-i.invariant.1
+pub returns-in_err-out : goal.returns-in_err-out
+returns-in_err-out c =
+    let room : c.loop-left.n ≤ length c.loop-left.out = omega (arith, c.loop-left.invariant.decodes.size) in
+    rw c.from_residual-in_err-out.ensures (stops-low c.loop-left.invariant.decodes c.in-len2-up.len_at_least _ c.in_ok-digit.ensures room c.in_err-out.ensures)
 
-pub returns-then-word-j : goal.returns-then-word-j
-returns-then-word-j c =
-    stops-odd _ _ _ _ _ c.loop-i.invariant.2 (room c.loop-i.invariant.0 c.loop-i.invariant.1 c.loop-i.invariant.2) c.loop-i-test.true c.if-word-j.true
-
-pub bounds-word-j : goal.bounds-word-j
-bounds-word-j c =
-    omega arith
-
-pub shape_of-out-then-high-ge16 : goal.shape_of-out-then-high-ge16
-shape_of-out-then-high-ge16 c =
-    c.loop-i.invariant.1
-
-pub returns-then-high-ge16 : goal.returns-then-high-ge16
-returns-then-high-ge16 c =
-    stops_high _ _ _ _ _ c.loop-i.invariant.2 (room c.loop-i.invariant.0 c.loop-i.invariant.1 c.loop-i.invariant.2) _ c.digit-high.ensures c.if-word-j.false c.if-high-ge16.true
-
-pub shape_of-out-then-low-ge16 : goal.shape_of-out-then-low-ge16
-shape_of-out-then-low-ge16 c =
-    c.loop-i.invariant.1
-
-pub returns-then-low-ge16 : goal.returns-then-low-ge16
-returns-then-low-ge16 c =
-    stops-low _ _ _ _ _ c.loop-i.invariant.2 (room c.loop-i.invariant.0 c.loop-i.invariant.1 c.loop-i.invariant.2) _ c.digit-high.ensures c.if-word-j.false _ c.digit-low.ensures
-    c.if-high-ge16.false c.if-low-ge16.true
-
-pub bounds-out-n : goal.bounds-out-n
-bounds-out-n c =
-    omega (arith, c.loop-i.invariant.0, c.loop-i.invariant.1, c.loop-i.invariant.2.even)
-
-pub overflow_add-n : goal.overflow_add-n
-overflow_add-n c =
-    omega (arith, c.loop-i.invariant.0, c.loop-i.invariant.1, c.loop-i.invariant.2.even)
-
-pub loop-i-preserved : goal.loop-i-preserved
-loop-i-preserved c = (
-  c.loop-i.invariant.0,
-  simp length-set c.loop-i.invariant.1,
-  decodes-more _ _ _ _ _ c.loop-i.invariant.2 _ _ c.digit-high.ensures
-      c.digit-low.ensures c.if-word-j.false c.if-high-ge16.false c.if-low-ge16.false
-      (omega (arith, c.loop-i.invariant.0, c.loop-i.invariant.1, c.loop-i.invariant.2.even)),
-)
-
-pub shape_of-out : goal.shape_of-out
-shape_of-out c =
-    c.loop-i.invariant.1
+pub loop-left-preserved : goal.loop-left-preserved
+loop-left-preserved c = record {
+  room = c.requires;
+  kept = search rules;
+  decodes = decodes-more c.loop-left.invariant.decodes c.in-len2-up.len_at_least _ c.in_ok-digit.ensures _ c.in_ok-out.ensures
+      (omega (arith, c.loop-left.invariant.decodes.size, c.in-len2-up.len_at_least)) _ (take_rest c.loop-left.left.now 2);
+}
 
 pub returns : goal.returns
 returns c =
-    decoded _ _ _ _ _ c.loop-i.invariant.2 (room c.loop-i.invariant.0 c.loop-i.invariant.1 c.loop-i.invariant.2) c.loop-i-test.false
+    ends c.loop-left.invariant.decodes (omega (arith, c.loop-left.invariant.decodes.size)) c.in_default.len_below c.then_some.ensures c.is_empty.ensures

@@ -1,22 +1,15 @@
-use Rattle.std.proofs.Common.{◌≤◌, rules}
-use native.Mathlib.Omega.{arith}
-use Rattle.calltext.proofs.Finding.{missed_in, met_in, none_in}
+use Rattle.std.proofs.Common.{eqb, rules, tests}
+use Rattle.std.proofs.lemmas.Iterator.{YieldsList-from_slice}
+use Rattle.std.proofs.lemmas.Iterator.Search.{position_from_yields_List}
+use Rattle.calltext.proofs.Finding.{found, not_found}
 use Rattle.calltext.proofs.words.find.Goals as goal
 
-pub returns-then-text-i-clause-place : goal.returns-then-text-i-clause-place
-returns-then-text-i-clause-place c =
-    let here = met_in c.args.byte c.args.text.now c.loop-i.i c.args.end c.loop-i-test.true c.requires.in_bounds.1 c.if-text-i.true in
-    omega (arith, here, c.loop-i.invariant.2)
+pub returns-in-Some-clause-place : goal.returns-in-Some-clause-place
+returns-in-Some-clause-place c =
+    found c.args.byte c.args.text.now c.args.at c.args.end c.position.result c.requires.in_bounds.0 c.requires.in_bounds.1
+    (position_from_yields_List (λ x. eqb x c.args.byte) _ _ c.position.result c.position.ensures.ran (YieldsList-from_slice _ cc) (λ x b q k. search (rules, tests))) _ c.in-Some.is
 
-pub loop-i-preserved : goal.loop-i-preserved
-loop-i-preserved c =
-    let on = missed_in c.args.byte c.args.text.now c.loop-i.i c.args.end c.loop-i-test.true c.requires.in_bounds.1 c.if-text-i.false in (
-      search rules,
-      search rules,
-      omega (arith, on, c.loop-i.invariant.2),
-    )
-
-pub returns-clause-place : goal.returns-clause-place
-returns-clause-place c =
-    let end = none_in c.args.byte c.args.text.now c.loop-i.i c.args.end (let l : c.args.end ≤ c.loop-i.i = search rules in l) c.requires.in_bounds.1 in
-    omega (arith, end, c.loop-i.invariant.0, c.loop-i.invariant.1, c.loop-i.invariant.2, c.loop-i-test.false)
+pub returns-in-None-clause-place : goal.returns-in-None-clause-place
+returns-in-None-clause-place c =
+    not_found c.args.byte c.args.text.now c.args.at c.args.end c.position.result c.requires.in_bounds.0 c.requires.in_bounds.1
+    (position_from_yields_List (λ x. eqb x c.args.byte) _ _ c.position.result c.position.ensures.ran (YieldsList-from_slice _ cc) (λ x b q k. search (rules, tests))) c.in-None.is

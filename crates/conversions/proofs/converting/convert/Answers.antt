@@ -1,29 +1,50 @@
-use mathlib.Core.Path.{refl}
+use Rattle.std.proofs.Common.{rules, refl, sym, ◌∙◌}
 use Rattle.rules.specs.Limits.{max_value_bytes, max_conversions}
-use Rattle.journal.proofs.Stands.{surveyed_as}
-use Rattle.conversions.proofs.Converts.{convert_malformed, convert_many}
+use Rattle.conversions.proofs.Forms.{read_stands}
+use Rattle.conversions.proofs.Converts.{convert_malformed, convert_many, convert_refused, convert_keeps, convert_ran}
 use Rattle.conversions.proofs.converting.convert.Goals as goal
 
-pub returns-in_default : goal.returns-in_default
-returns-in_default c =
-    convert_malformed _ _ _ _ _ c.survey-survey.ensures c.in_default.is
+pub returns-in_err-places : goal.returns-in_err-places
+returns-in_err-places c =
+    convert_malformed _ _ _ _ _ c.survey.ensures (sym c.ok_or.ensures.value ∙ c.in_err-places.was) (search rules)
 
-pub returns-then-pl-ge-MAX_CONVERSIONS : goal.returns-then-pl-ge-MAX_CONVERSIONS
+pub returns-then-places-ge-MAX_CONVERSIONS : goal.returns-then-places-ge-MAX_CONVERSIONS
 unfolding max_conversions
-returns-then-pl-ge-MAX_CONVERSIONS c =
-    convert_many _ _ _ _ _ (surveyed_as c.survey-survey.ensures c.in-Form.is) c.if-pl-ge-MAX_CONVERSIONS.true
+returns-then-places-ge-MAX_CONVERSIONS c =
+    convert_many _ _ _ _ _ (read_stands _ c.survey.ensures c.ok_or.ensures.value c.in_ok-places.was) c.if-places-ge-MAX_CONVERSIONS.true
 
-pub convert_held-requires-clause-accepted : goal.convert_held-requires-clause-accepted
+pub returns-in_err-done : goal.returns-in_err-done
 unfolding max_conversions max_value_bytes
-convert_held-requires-clause-accepted c =
-    (c.requires.accepted, c.requires.fuel_in_bounds)
+returns-in_err-done c =
+    convert_refused _ _ _ _ _ (read_stands _ c.survey.ensures c.ok_or.ensures.value c.in_ok-places.was)
+    c.if-places-ge-MAX_CONVERSIONS.false c.held_value.ensures _ _ refl c.in_err-done.ensures (search rules)
 
-pub convert_held-requires-clause-stands : goal.convert_held-requires-clause-stands
+pub slice_bounds-output-end : goal.slice_bounds-output-end
 unfolding max_conversions max_value_bytes
-convert_held-requires-clause-stands c =
-    surveyed_as c.survey-survey.ensures c.in-Form.is
+slice_bounds-output-end c =
+    (convert_keeps _ _ _ _ _ (read_stands _ c.survey.ensures c.ok_or.ensures.value c.in_ok-places.was)
+    c.if-places-ge-MAX_CONVERSIONS.false c.held_value.ensures _ _ refl c.in_ok-done.ensures c.from-n.ensures).2
 
-pub convert_held-requires-clause-count_lt_max_conversions : goal.convert_held-requires-clause-count_lt_max_conversions
+pub slice_bounds-keep-end : goal.slice_bounds-keep-end
 unfolding max_conversions max_value_bytes
-convert_held-requires-clause-count_lt_max_conversions c =
-    (c.if-pl-ge-MAX_CONVERSIONS.false, refl)
+slice_bounds-keep-end c =
+    (convert_keeps _ _ _ _ _ (read_stands _ c.survey.ensures c.ok_or.ensures.value c.in_ok-places.was)
+    c.if-places-ge-MAX_CONVERSIONS.false c.held_value.ensures _ _ refl c.in_ok-done.ensures c.from-n.ensures).1
+
+pub keep-requires-clause-held_value : goal.keep-requires-clause-held_value
+unfolding max_conversions max_value_bytes
+keep-requires-clause-held_value c =
+    (convert_keeps _ _ _ _ _ (read_stands _ c.survey.ensures c.ok_or.ensures.value c.in_ok-places.was)
+    c.if-places-ge-MAX_CONVERSIONS.false c.held_value.ensures _ _ refl c.in_ok-done.ensures c.from-n.ensures).0
+
+pub keep-requires-clause-len_value : goal.keep-requires-clause-len_value
+unfolding max_conversions max_value_bytes
+keep-requires-clause-len_value c =
+    sym c.from-n.ensures ∙ (convert_keeps _ _ _ _ _ (read_stands _ c.survey.ensures c.ok_or.ensures.value c.in_ok-places.was)
+    c.if-places-ge-MAX_CONVERSIONS.false c.held_value.ensures _ _ refl c.in_ok-done.ensures c.from-n.ensures).1
+
+pub returns : goal.returns
+unfolding max_conversions max_value_bytes
+returns c =
+    convert_ran _ _ _ _ _ (read_stands _ c.survey.ensures c.ok_or.ensures.value c.in_ok-places.was)
+    c.if-places-ge-MAX_CONVERSIONS.false c.held_value.ensures _ _ refl c.in_ok-done.ensures c.from-n.ensures c.keep.ensures

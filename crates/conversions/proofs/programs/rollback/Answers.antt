@@ -1,40 +1,17 @@
-use mathlib.Core.Path.{refl}
-use native.Mathlib.Omega.{arith}
-use Rattle.rules.specs.Limits.{max_parameters}
+use Rattle.std.proofs.Common.{rules}
 use Rattle.requests.proofs.Beginning.{enough-types}
-use Rattle.requests.proofs.Rows.{fronts, kept-enough}
 use Rattle.conversions.specs.Turns.{rollback_of}
 use Rattle.conversions.proofs.Loads.{turn-ready, turn-refused}
 use Rattle.conversions.proofs.programs.rollback.Goals as goal
 
-pub load-loaded-requires-clause-buffers : goal.load-loaded-requires-clause-buffers
-unfolding max_parameters
-load-loaded-requires-clause-buffers c =
-    record { for_types = omega arith; for_terms = omega arith; for_functions = omega arith }
-
-pub load-loaded-requires-clause-typing_bytes_in_bounds : goal.load-loaded-requires-clause-typing_bytes_in_bounds
-unfolding max_parameters
-load-loaded-requires-clause-typing_bytes_in_bounds c =
+pub load-requires : goal.load-requires
+load-requires c =
     enough-types _ _ c.requires
 
-pub load-loaded-requires-clause-table_value : goal.load-loaded-requires-clause-table_value
-unfolding max_parameters
-load-loaded-requires-clause-table_value c =
-    refl
+pub returns-in_err-loaded : goal.returns-in_err-loaded
+returns-in_err-loaded c =
+    turn-refused (λ P. rollback_of P c.args.fuel c.args.journal.now) c.in_err-loaded.ensures (search rules)
 
-pub rollback_fronts-requires-clause-fronts : goal.rollback_fronts-requires-clause-fronts
-rollback_fronts-requires-clause-fronts c =
-    fronts c.load-loaded.ensures c.in-Ready.is
-
-pub rollback_fronts-requires-clause-fuel_in_bounds : goal.rollback_fronts-requires-clause-fuel_in_bounds
-rollback_fronts-requires-clause-fuel_in_bounds c =
-    kept-enough c.load-loaded.auto.ws c.requires
-
-pub returns-in-Ready : goal.returns-in-Ready
-returns-in-Ready c =
-    turn-ready c.load-loaded.ensures (λ P. rollback_of P c.args.fuel c.args.journal.now) c.in-Ready.is
-    c.rollback_fronts.ensures
-
-pub returns-in-Refused : goal.returns-in-Refused
-returns-in-Refused c =
-    turn-refused c.load-loaded.ensures (λ P. rollback_of P c.args.fuel c.args.journal.now) c.in-Refused.is
+pub returns : goal.returns
+returns c =
+    turn-ready (λ P. rollback_of P c.args.fuel c.args.journal.now) c.in_ok-loaded.ensures c.accepted.ensures c.rollback.ensures

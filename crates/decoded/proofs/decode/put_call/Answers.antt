@@ -1,5 +1,4 @@
 use native.Mathlib.Omega.{arith}
-use mathlib.Core.Path.{◌∙◌}
 use borrow.Author.Rules.{rules}
 use Rattle.program.proofs.Rooms.{term-kind-room, call-sized, call-room}
 use Rattle.decoded.proofs.Decoding as law
@@ -13,25 +12,10 @@ pub first-requires : goal.first-requires
 first-requires c =
     omega (arith, call-room c.requires.t_lt_max_terms.1.field c.requires.at_value)
 
-pub overflow_cast-n : goal.overflow_cast-n
-overflow_cast-n c =
-    let h = c.requires.t_lt_max_terms.1.few c.requires.at_value in
-    omega arith
-
 pub overflow_add-at : goal.overflow_add-at
 overflow_add-at c =
     let h = call-room c.requires.t_lt_max_terms.1.field c.requires.at_value in
     search rules
-
-pub overflow_add-n : goal.overflow_add-n
-overflow_add-n c =
-    let h = c.requires.t_lt_max_terms.1.few c.requires.at_value in
-    search rules
-
-pub put_listed-requires-clause-code_len : goal.put_listed-requires-clause-code_len
-put_listed-requires-clause-code_len c =
-    let h = c.requires.t_lt_max_terms.1.few c.requires.at_value in
-    c.put_heads.ensures.lengths ∙ c.requires.code_len
 
 pub put_listed-requires-clause-row_lt_all_rows : goal.put_listed-requires-clause-row_lt_all_rows
 put_listed-requires-clause-row_lt_all_rows c =
@@ -40,6 +24,6 @@ put_listed-requires-clause-row_lt_all_rows c =
 
 pub returns : goal.returns
 returns c =
-    law.put-call c.put_heads.ensures c.put_listed.ensures c.requires.at_value c.first.ensures
+    law.put-call (rw c.number_of.ensures at c.put_heads.ensures) c.put_listed.ensures c.requires.at_value c.first.ensures
     c.call_ancillae-n.ensures (let h = c.requires.t_lt_max_terms.1.few
     c.requires.at_value in let e = c.call_ancillae-n.ensures in omega arith)

@@ -1,5 +1,4 @@
 use native.Mathlib.Omega.{arith}
-use mathlib.Core.Path.{◌∙◌}
 use borrow.Author.Rules.{rules}
 use Rattle.rules.specs.Limits.{max_parameters}
 use Rattle.program.proofs.Rooms.{function-room}
@@ -22,12 +21,6 @@ pub overflow_add-at : goal.overflow_add-at
 overflow_add-at c =
     let h = function-room c.requires.g_lt_max_functions.1 in
     search rules
-
-pub put_listed-requires-clause-code_len : goal.put_listed-requires-clause-code_len
-unfolding max_parameters
-put_listed-requires-clause-code_len c =
-    let h = function-room c.requires.g_lt_max_functions.1 in
-    c.put_heads.ensures.lengths ∙ c.requires.code_len
 
 pub put_listed-requires-clause-row_lt_all_rows : goal.put_listed-requires-clause-row_lt_all_rows
 unfolding max_parameters

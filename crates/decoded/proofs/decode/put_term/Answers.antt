@@ -1,74 +1,50 @@
 use native.Mathlib.Omega.{arith}
-use mathlib.Core.Path.{sym, subst, ◌∙◌}
-use Rattle.program.proofs.Rooms.{term-kind, term-kind-room, var-room, case_room}
-use Rattle.decoded.proofs.Trees.{Two}
+use mathlib.Core.Path.{sym, ap, ◌∙◌}
+use Rattle.program.specs.KindNumbers.{term_kind_number}
+use Rattle.program.proofs.Rooms.{var-room, case_room}
 use Rattle.decoded.proofs.Decoding as law
 use Rattle.decoded.proofs.decode.put_term.Goals as goal
 
-pub kind-kind-requires : goal.kind-kind-requires
-kind-kind-requires c =
-    term-kind-room c.requires.t_lt_max_terms.1.field
-
 pub variable-requires : goal.variable-requires
 variable-requires c =
-    var-room c.requires.t_lt_max_terms.1.field (sym c.kind-kind.ensures ∙ c.in-0.is)
+    var-room c.requires.t_lt_max_terms.1.field (sym c.term_kind-kind.ensures ∙ ap term_kind_number c.in-Variable.is)
 
 pub first-requires : goal.first-requires
 first-requires c =
-    omega (arith, case_room c.requires.t_lt_max_terms.1.field (sym c.kind-kind.ensures ∙ c.in-7.is))
+    omega (arith, law.two-there c.requires.t_lt_max_terms.1.field c.term_kind-kind.ensures c.in-Inl.is)
 
 pub second-requires : goal.second-requires
 second-requires c =
-    omega (arith, case_room c.requires.t_lt_max_terms.1.field (sym c.kind-kind.ensures ∙ c.in-7.is))
+    law.two-there c.requires.t_lt_max_terms.1.field c.term_kind-kind.ensures c.in-Inl.is
+
+pub first-requires-in-Case : goal.first-requires-in-Case
+first-requires-in-Case c =
+    omega (arith, case_room c.requires.t_lt_max_terms.1.field (sym c.term_kind-kind.ensures ∙ ap term_kind_number c.in-Case.is))
+
+pub second-requires-in-Case : goal.second-requires-in-Case
+second-requires-in-Case c =
+    omega (arith, case_room c.requires.t_lt_max_terms.1.field (sym c.term_kind-kind.ensures ∙ ap term_kind_number c.in-Case.is))
 
 pub third-requires : goal.third-requires
 third-requires c =
-    case_room c.requires.t_lt_max_terms.1.field (sym c.kind-kind.ensures ∙ c.in-7.is)
+    case_room c.requires.t_lt_max_terms.1.field (sym c.term_kind-kind.ensures ∙ ap term_kind_number c.in-Case.is)
 
-pub put_call-requires-clause-code_len : goal.put_call-requires-clause-code_len
-put_call-requires-clause-code_len c =
-    c.requires.code_len
+pub returns-in-Variable : goal.returns-in-Variable
+returns-in-Variable c =
+    let variable = sym c.term_kind-kind.ensures ∙ ap term_kind_number c.in-Variable.is in
+    law.put-variable (rw (c.number_of-number.ensures, c.in-Variable.is) at c.put_heads.ensures) variable
+    (c.from.ensures ∙ c.variable.ensures) (c.requires.t_lt_max_terms.1.variables variable)
 
-pub put_call-requires-clause-t_lt_max_terms : goal.put_call-requires-clause-t_lt_max_terms
-put_call-requires-clause-t_lt_max_terms c =
-    c.requires.t_lt_max_terms
+pub returns-in-Unit : goal.returns-in-Unit
+returns-in-Unit c =
+    law.put-unit (rw (c.number_of-number.ensures, c.in-Unit.is) at c.put_heads-in-Unit.ensures)
+    (sym c.term_kind-kind.ensures ∙ ap term_kind_number c.in-Unit.is)
 
-pub put_call-requires-clause-at_value : goal.put_call-requires-clause-at_value
-put_call-requires-clause-at_value c =
-    sym c.kind-kind.ensures ∙ c.in-8.is
+pub returns-in-Inl : goal.returns-in-Inl
+returns-in-Inl c =
+    law.put_two c.put_heads-in-Inl.ensures c.number_of-number.ensures c.term_kind-kind.ensures c.in-Inl.is c.first.ensures c.second.ensures
 
-pub first-requires-in-2 : goal.first-requires-in-2
-first-requires-in-2 c =
-    omega (arith, law.two-there c.requires.t_lt_max_terms.1.field c.kind-kind.ensures c.in-2.in_default-own.rest)
-
-pub second-requires-in-2 : goal.second-requires-in-2
-second-requires-in-2 c =
-    law.two-there c.requires.t_lt_max_terms.1.field c.kind-kind.ensures c.in-2.in_default-own.rest
-
-pub returns-in-0 : goal.returns-in-0
-returns-in-0 c =
-    let variable = sym c.kind-kind.ensures ∙ c.in-0.is in
-    law.put-variable c.put_heads.ensures variable (c.wide16.ensures.0 ∙ c.variable.ensures)
-    (c.requires.t_lt_max_terms.1.variables variable)
-
-pub returns-in-1 : goal.returns-in-1
-returns-in-1 c =
-    law.put-unit c.put_heads-in-1.ensures (sym c.kind-kind.ensures ∙ c.in-1.is)
-
-pub returns-in-7 : goal.returns-in-7
-returns-in-7 c =
-    law.put_case c.put_heads-in-7.ensures (sym c.kind-kind.ensures ∙ c.in-7.is) c.first.ensures
-    c.second.ensures c.third.ensures
-
-pub returns-in-8 : goal.returns-in-8
-returns-in-8 c =
-    c.put_call.ensures
-
-pub returns-in-2 : goal.returns-in-2
-returns-in-2 c =
-    law.put_two c.put_heads-in-2.ensures (c.wide16-in-2.ensures.0 ∙ c.kind-kind.ensures)
-    (subst Two (sym c.wide16-in-2.ensures.0) c.in-2.in_default-own.rest) c.first-in-2.ensures c.second-in-2.ensures
-
-pub returns-in_default : goal.returns-in_default
-returns-in_default c =
-    absurd (omega (arith, c.kind-kind.ensures, c.in_default.if-kind-lt11-own.false, term-kind c.requires.t_lt_max_terms.1.field))
+pub returns-in-Case : goal.returns-in-Case
+returns-in-Case c =
+    law.put_case (rw (c.number_of-number.ensures, c.in-Case.is) at c.put_heads-in-Case.ensures)
+    (sym c.term_kind-kind.ensures ∙ ap term_kind_number c.in-Case.is) c.first-in-Case.ensures c.second-in-Case.ensures c.third.ensures

@@ -5,4 +5,4 @@ use Rattle.decoded.proofs.naming.set_of.Goals as goal
 pub returns : goal.returns
 unfolding set_in
 returns c =
-    ap (λ t. set_in c.args.sets.now t) c.wide_index-at.ensures.0
+    ap (λ t. set_in c.args.sets.now t) c.from.ensures

@@ -1,17 +1,6 @@
 use Rattle.engine.specs.Runs.{run_call}
 use Rattle.engine.proofs.running.forward.Goals as goal
 
-pub returns-clause-answer : goal.returns-clause-answer
+pub returns : goal.returns
 unfolding run_call
-returns-clause-answer c =
-    c.call.ensures.answer
-
-pub returns-clause-fills : goal.returns-clause-fills
-unfolding run_call
-returns-clause-fills c =
-    c.call.ensures.fills
-
-pub returns-clause-clear : goal.returns-clause-clear
-unfolding run_call
-returns-clause-clear c =
-    c.call.ensures.clear
+returns c = record { answer = c.call.ensures.answer; fills = c.call.ensures.fills; clear = c.call.ensures.clear }

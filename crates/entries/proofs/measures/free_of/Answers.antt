@@ -1,83 +1,56 @@
 use native.Mathlib.Omega.{arith}
 use mathlib.Core.Path.{sym, ◌∙◌}
-use Rattle.program.proofs.Rooms.{type-kind, type-kind-room, mu-room}
-use Rattle.entries.proofs.Figures.{pair-room, variable-room, pair-below, one_below, free-unit, free-pair, free_one, free-variable}
+use Rattle.program.proofs.Rooms.{mu-room}
+use Rattle.entries.proofs.Figures.{pair-number, pair-room, variable-room, pair-below, one_below, one_fewer, free-unit, free-pair, free_one, free-variable}
 use Rattle.entries.proofs.measures.free_of.Goals as goal
-
-pub kind-kind-requires : goal.kind-kind-requires
-kind-kind-requires c =
-    type-kind-room c.requires.type_field
 
 pub first-requires : goal.first-requires
 first-requires c =
-    mu-room c.requires.type_field (sym c.kind-kind.ensures ∙ c.in-3.is)
-
-pub bounds-free-a : goal.bounds-free-a
-bounds-free-a c =
-    omega (
-      arith,
-      one_below _ _ _ (sym c.kind-kind.ensures ∙ c.in-3.is) c.requires.at_value,
-      c.wide_index-a.ensures.0 ∙
-          c.first.ensures,
-    )
-
-pub variable-requires : goal.variable-requires
-variable-requires c =
-    variable-room _ _ c.requires.type_field (omega (arith, c.kind-kind.ensures, c.in-4.is))
-
-pub first-requires-in-1 : goal.first-requires-in-1
-first-requires-in-1 c =
-    omega (
-      arith,
-      pair-room _ _ c.requires.type_field (let e = c.in-1.in_default-own.rest.0.0.1 in omega (arith, c.kind-kind.ensures))
-          (omega (arith, c.kind-kind.ensures, c.in-1.if-kind-lt3-own.true)),
-    )
+    let pair = pair-number c.type_kind.ensures c.in-Product.is in
+    omega (arith, pair-room _ _ c.requires.type_field pair.0 pair.1)
 
 pub second-requires : goal.second-requires
 second-requires c =
-    pair-room _ _ c.requires.type_field (let e = c.in-1.in_default-own.rest.0.0.1 in omega (arith, c.kind-kind.ensures))
-    (omega (arith, c.kind-kind.ensures, c.in-1.if-kind-lt3-own.true))
+    let pair = pair-number c.type_kind.ensures c.in-Product.is in
+    pair-room _ _ c.requires.type_field pair.0 pair.1
 
-pub bounds-free-a-in-1 : goal.bounds-free-a-in-1
-bounds-free-a-in-1 c =
-    omega (
-      arith,
-      (pair-below _ _ _ (let e = c.in-1.in_default-own.rest.0.0.1 in omega (arith, c.kind-kind.ensures))
-          (omega (arith, c.kind-kind.ensures, c.in-1.if-kind-lt3-own.true)) c.requires.at_value).0,
-      c.wide_index-a-in-1.ensures.0 ∙
-          c.first-in-1.ensures,
-    )
+pub bounds-free-a : goal.bounds-free-a
+bounds-free-a c =
+    let pair = pair-number c.type_kind.ensures c.in-Product.is in
+    omega (arith, (pair-below _ _ _ pair.0 pair.1 c.requires.at_value).0, c.from-a.ensures ∙ c.first.ensures)
 
 pub bounds-free-b : goal.bounds-free-b
 bounds-free-b c =
-    omega (
-      arith,
-      (pair-below _ _ _ (let e = c.in-1.in_default-own.rest.0.0.1 in omega (arith, c.kind-kind.ensures))
-          (omega (arith, c.kind-kind.ensures, c.in-1.if-kind-lt3-own.true)) c.requires.at_value).1,
-      c.wide_index-b.ensures.0 ∙
-          c.second.ensures,
-    )
+    let pair = pair-number c.type_kind.ensures c.in-Product.is in
+    omega (arith, (pair-below _ _ _ pair.0 pair.1 c.requires.at_value).1, c.from-b.ensures ∙ c.second.ensures)
 
-pub returns-in-0 : goal.returns-in-0
-returns-in-0 c =
-    free-unit _ _ _ (sym c.kind-kind.ensures ∙ c.in-0.is)
+pub first-requires-in-Recursive : goal.first-requires-in-Recursive
+first-requires-in-Recursive c =
+    mu-room c.requires.type_field (sym (rw c.in-Recursive.is at c.type_kind.ensures))
 
-pub returns-in-3 : goal.returns-in-3
-returns-in-3 c =
-    c.outside.ensures ∙ free_one _ _ _ _ (c.wide_index-a.ensures.0 ∙ c.first.ensures)
-    (sym c.kind-kind.ensures ∙ c.in-3.is)
+pub bounds-free-a-in-Recursive : goal.bounds-free-a-in-Recursive
+bounds-free-a-in-Recursive c =
+    let below = one_below _ _ _ (sym (rw c.in-Recursive.is at c.type_kind.ensures)) c.requires.at_value in
+    omega (arith, below, c.from-a-in-Recursive.ensures ∙ c.first-in-Recursive.ensures)
 
-pub returns-in-4 : goal.returns-in-4
-returns-in-4 c =
-    free-variable _ _ _ _ (c.wide16.ensures.0 ∙ c.variable.ensures)
-    (omega (arith, c.kind-kind.ensures, c.in-4.is))
+pub variable-requires : goal.variable-requires
+variable-requires c =
+    variable-room _ _ c.requires.type_field (omega (arith, rw c.in-Variable.is at c.type_kind.ensures))
 
-pub returns-in-1 : goal.returns-in-1
-returns-in-1 c =
-    c.greater.ensures ∙ free-pair _ _ _ _ _ (c.wide_index-a-in-1.ensures.0 ∙ c.first-in-1.ensures)
-    (c.wide_index-b.ensures.0 ∙ c.second.ensures)
-    (let e = c.in-1.in_default-own.rest.0.0.1 in omega (arith, c.kind-kind.ensures)) (omega (arith, c.kind-kind.ensures, c.in-1.if-kind-lt3-own.true))
+pub returns-in-Unit : goal.returns-in-Unit
+returns-in-Unit c =
+    free-unit _ _ _ (sym (rw c.in-Unit.is at c.type_kind.ensures))
 
-pub returns-in_default : goal.returns-in_default
-returns-in_default c =
-    absurd (omega (arith, c.kind-kind.ensures, c.in_default.if-kind-lt3-own.false, type-kind c.requires.type_field))
+pub returns-in-Product : goal.returns-in-Product
+returns-in-Product c =
+    let pair = pair-number c.type_kind.ensures c.in-Product.is in
+    c.max.ensures ∙ free-pair _ _ _ _ _ (c.from-a.ensures ∙ c.first.ensures) (c.from-b.ensures ∙ c.second.ensures) pair.0 pair.1
+
+pub returns-in-Recursive : goal.returns-in-Recursive
+returns-in-Recursive c =
+    c.saturating_sub.ensures ∙ one_fewer _ ∙ free_one _ _ _ _ (c.from-a-in-Recursive.ensures ∙ c.first-in-Recursive.ensures)
+    (sym (rw c.in-Recursive.is at c.type_kind.ensures))
+
+pub returns-in-Variable : goal.returns-in-Variable
+returns-in-Variable c =
+    free-variable _ _ _ _ (c.from.ensures ∙ c.variable.ensures) (omega (arith, rw c.in-Variable.is at c.type_kind.ensures))

@@ -5,7 +5,7 @@ use Rattle.entries.proofs.testing.all_below.Goals as goal
 
 pub loop-i-init : goal.loop-i-init
 loop-i-init c =
-    (omega arith, below_none _ _ _)
+    (below_none _ _ _)
 
 pub overflow_mul-i : goal.overflow_mul-i
 overflow_mul-i c =
@@ -21,23 +21,13 @@ read16-requires c =
 
 pub returns-then-limit-t : goal.returns-then-limit-t
 returns-then-limit-t c =
-    below-stops _ _ _ c.loop-i.i _ (omega arith) (omega (arith, c.wide_index-t.ensures.0 ∙ c.read16.ensures))
-
-pub overflow_add-i : goal.overflow_add-i
-overflow_add-i c =
-    omega arith
-
-pub loop-i-smaller : goal.loop-i-smaller
-loop-i-smaller c =
-    omega arith
+    below-stops _ _ _ c.loop-i.i _ (omega arith) (omega (arith, c.from-t.ensures ∙ c.read16.ensures))
 
 pub loop-i-preserved : goal.loop-i-preserved
-loop-i-preserved c = (
-  omega arith,
-  below_more _ _ _ c.loop-i.i c.loop-i.invariant.1
-      (omega (arith, c.wide_index-t.ensures.0 ∙ c.read16.ensures)),
-)
+loop-i-preserved c =
+    below_more _ _ _ c.loop-i.i c.loop-i.invariant
+    (omega (arith, c.from-t.ensures ∙ c.read16.ensures))
 
 pub returns : goal.returns
 returns c =
-    below_all _ _ _ c.loop-i.i _ (omega arith) (omega arith) c.loop-i.invariant.1
+    below_all _ _ _ c.loop-i.i _ (omega arith) (omega arith) c.loop-i.invariant

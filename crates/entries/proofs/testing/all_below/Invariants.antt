@@ -1,4 +1,3 @@
-use Prim.Native.Nat.{◌-◌, ◌≤◌}
 use mathlib.Core.Path.{◌≡◌}
 use mathlib.Core.Bool.{true}
 use Rattle.calls.specs.Entries.{references}
@@ -6,7 +5,4 @@ use Rattle.calls.specs.Named.{below}
 use Rattle.entries.proofs.testing.all_below.Given as goal
 
 abbrev pub invariant-loop-i : goal.invariant-loop-i
-invariant-loop-i l = (l.i ≤ l.n) × (below l.limit (references l.p l.from l.i) ≡ true)
-
-abbrev pub decreases-loop-i : goal.decreases-loop-i
-decreases-loop-i l = l.n - l.i
+invariant-loop-i l = (below l.limit (references l.p l.from l.i) ≡ true)

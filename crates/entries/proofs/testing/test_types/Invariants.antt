@@ -1,11 +1,7 @@
-use Prim.Native.Nat.{◌-◌, ◌≤◌}
 use mathlib.Core.Path.{◌≡◌}
 use lib.ListN.{length}
 use Rattle.entries.proofs.Types.{TypesSo}
 use Rattle.entries.proofs.testing.test_types.Given as goal
 
 abbrev pub invariant-loop-i : goal.invariant-loop-i
-invariant-loop-i l = (l.i ≤ length l.types) × (length l.nodes ≡ length l.initial.nodes) × (length l.free ≡ length l.initial.free) × TypesSo l.p l.types l.i l.nodes l.free l.tally
-
-abbrev pub decreases-loop-i : goal.decreases-loop-i
-decreases-loop-i l = length l.types - l.i
+invariant-loop-i l = (length l.nodes ≡ length l.initial.nodes) × (length l.free ≡ length l.initial.free) × TypesSo l.p l.types l.i l.nodes l.free l.tally

@@ -4,7 +4,7 @@ use Rattle.entries.proofs.testing.test_used.Goals as goal
 
 pub loop-k-init : goal.loop-k-init
 loop-k-init c =
-    (omega arith, used_start _ _)
+    (used_start _ _)
 
 pub bounds-used-k : goal.bounds-used-k
 bounds-used-k c =
@@ -16,20 +16,12 @@ bounds-terms-k c =
 
 pub returns-then-used-k-eq0 : goal.returns-then-used-k-eq0
 returns-then-used-k-eq0 c =
-    used_stop _ _ c.loop-k.k (omega arith) (omega arith) c.loop-k.invariant.1 _ c.wide_index.ensures.0 c.if-used-k-eq0.true
-
-pub overflow_add-k : goal.overflow_add-k
-overflow_add-k c =
-    omega arith
-
-pub loop-k-smaller : goal.loop-k-smaller
-loop-k-smaller c =
-    omega arith
+    used_stop _ _ c.loop-k.k (omega arith) (omega arith) c.loop-k.invariant _ c.from.ensures c.if-used-k-eq0.true
 
 pub loop-k-preserved : goal.loop-k-preserved
 loop-k-preserved c =
-    (omega arith, used-more _ _ c.loop-k.k (omega arith) (omega arith) c.loop-k.invariant.1 c.if-used-k-eq0.false)
+    (used-more _ _ c.loop-k.k (omega arith) (omega arith) c.loop-k.invariant c.if-used-k-eq0.false)
 
 pub returns : goal.returns
 returns c =
-    used-end _ _ c.loop-k.k (omega arith) c.loop-k.invariant.1
+    used-end _ _ c.loop-k.k (omega arith) c.loop-k.invariant

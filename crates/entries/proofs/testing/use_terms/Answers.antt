@@ -6,7 +6,7 @@ use Rattle.entries.proofs.testing.use_terms.Goals as goal
 
 pub loop-i-init : goal.loop-i-init
 loop-i-init c =
-    (omega arith, refl, using_none _ _ _)
+    (refl, using_none _ _ _)
 
 pub overflow_mul-i : goal.overflow_mul-i
 overflow_mul-i c =
@@ -25,55 +25,46 @@ bounds-used-t c =
     omega (
       arith,
       below_at _ _ _ c.loop-i.i _ (omega arith) c.requires.n_value,
-      c.wide_index-t.ensures.0
+      c.from-t.ensures
           ∙ c.read16.ensures,
-      c.loop-i.invariant.1,
+      c.loop-i.invariant.0,
     )
 
 pub returns-then-used-t-gt0 : goal.returns-then-used-t-gt0
 returns-then-used-t-gt0 c =
-    using_stops _ _ _ _ c.loop-i.i _ _ (c.wide_index-t.ensures.0 ∙ c.read16.ensures) (omega arith)
+    using_stops _ _ _ _ c.loop-i.i _ _ (c.from-t.ensures ∙ c.read16.ensures) (omega arith)
     (omega (
       arith,
       below_at _ _ _ c.loop-i.i _ (omega arith) c.requires.n_value,
-      c.wide_index-t.ensures.0
+      c.from-t.ensures
           ∙ c.read16.ensures,
-      c.loop-i.invariant.1,
-    )) c.if-used-t-gt0.true c.loop-i.invariant.2
+      c.loop-i.invariant.0,
+    )) c.if-used-t-gt0.true c.loop-i.invariant.1
 
 pub bounds-used-t-in-loop-i : goal.bounds-used-t-in-loop-i
 bounds-used-t-in-loop-i c =
     omega (
       arith,
       below_at _ _ _ c.loop-i.i _ (omega arith) c.requires.n_value,
-      c.wide_index-t.ensures.0
+      c.from-t.ensures
           ∙ c.read16.ensures,
-      c.loop-i.invariant.1,
+      c.loop-i.invariant.0,
     )
-
-pub overflow_add-i : goal.overflow_add-i
-overflow_add-i c =
-    omega arith
-
-pub loop-i-smaller : goal.loop-i-smaller
-loop-i-smaller c =
-    omega arith
 
 pub loop-i-preserved : goal.loop-i-preserved
 loop-i-preserved c = (
-  omega arith,
-  simp length-set c.loop-i.invariant.1,
+  simp length-set c.loop-i.invariant.0,
   using_more _ _ _ _ c.loop-i.i _
-      (c.wide_index-t.ensures.0 ∙ c.read16.ensures)
+      (c.from-t.ensures ∙ c.read16.ensures)
       (omega (
         arith,
         below_at _ _ _ c.loop-i.i _ (omega arith) c.requires.n_value,
-        c.wide_index-t.ensures.0
+        c.from-t.ensures
             ∙ c.read16.ensures,
-        c.loop-i.invariant.1,
-      )) c.if-used-t-gt0.false c.loop-i.invariant.2,
+        c.loop-i.invariant.0,
+      )) c.if-used-t-gt0.false c.loop-i.invariant.1,
 )
 
 pub returns : goal.returns
 returns c =
-    using_all _ _ _ _ c.loop-i.i _ (omega arith) (omega arith) c.loop-i.invariant.2
+    using_all _ _ _ _ c.loop-i.i _ (omega arith) (omega arith) c.loop-i.invariant.1

@@ -1,4 +1,3 @@
-use Prim.Native.Nat.{◌-◌, ◌≤◌}
 use mathlib.Core.Path.{◌≡◌}
 use lib.ListN.{length}
 use Rattle.calls.specs.Entries.{references}
@@ -6,7 +5,4 @@ use Rattle.entries.proofs.Turns.{Using}
 use Rattle.entries.proofs.testing.use_terms.Given as goal
 
 abbrev pub invariant-loop-i : goal.invariant-loop-i
-invariant-loop-i l = (l.i ≤ l.n) × (length l.used ≡ length l.initial.used) × Using l.initial.used l.used (references l.p l.from l.i)
-
-abbrev pub decreases-loop-i : goal.decreases-loop-i
-decreases-loop-i l = l.n - l.i
+invariant-loop-i l = (length l.used ≡ length l.initial.used) × Using l.initial.used l.used (references l.p l.from l.i)

@@ -4,7 +4,6 @@ use mathlib.Core.Path.{refl, ap, ◌∙◌}
 use Rattle.scopes.specs.Slots.{machine_of}
 use Rattle.forward.specs.Outcomes.{status_of}
 use Rattle.forward.proofs.Making.{finish_new, finish_old}
-use Rattle.forward.proofs.Answers.{is_long}
 use Rattle.forward.proofs.outcomes.finish.Goals as goal
 
 pub grow-requires : goal.grow-requires
@@ -30,4 +29,4 @@ returns-then-made c =
 
 pub returns : goal.returns
 returns c =
-    record { lengths = refl; slots = refl; out = finish_old (machine_of c.args.st.now) _ c.if-made.false (is_long c.refuse.ensures) }
+    record { lengths = refl; slots = refl; out = finish_old (machine_of c.args.st.now) _ c.if-made.false c.refuse.ensures.status }

@@ -1,4 +1,4 @@
-use Rattle.forward.proofs.Answers.{is_value_lem, is_refused, is_first_match}
+use Rattle.forward.proofs.Answers.{is_value_lem, is_refused}
 use Rattle.forward.proofs.Leaves.{check-row, check-asks, check-refused, check-chooses, check-chosen, check-passes, check-yields}
 use Rattle.forward.proofs.outcomes.first_match.Goals as goal
 
@@ -34,7 +34,7 @@ returns-then-yields c =
     check-yields c.requires (is_value_lem c.if-out-ge-STOPPED.false)
     (check-chooses c.requires c.ancillae_in-q.ensures c.count_in-n.ensures c.chooses_by_ancilla.ensures) c.if-chooses_by_ancilla.false
     _ c.second_of-left.ensures c.yields.ensures c.if-yields.true
-    (is_first_match c.refuse.ensures)
+    c.refuse.ensures.status
 
 pub returns : goal.returns
 returns c =

@@ -1,7 +1,7 @@
 use mathlib.Core.Path.{sym, ap, ◌∙◌}
 use Rattle.forward.proofs.Answers.{is_value_lem, is_refused}
-use Rattle.forward.specs.declared.outcomes.Status.TheVariants.{Refused}
 use Rattle.forward.proofs.outcomes.status_of.Goals as goal
+use Rattle.std.specs.Prelude.{Err}
 
 pub returns-then-answer-lt-STOPPED : goal.returns-then-answer-lt-STOPPED
 returns-then-answer-lt-STOPPED c =
@@ -9,4 +9,4 @@ returns-then-answer-lt-STOPPED c =
 
 pub returns : goal.returns
 returns c =
-    ap Refused c.refusal_of.ensures ∙ sym (is_refused c.if-answer-lt-STOPPED.false)
+    ap Err c.refusal_of.ensures ∙ sym (is_refused c.if-answer-lt-STOPPED.false)

@@ -1,7 +1,7 @@
 use Prim.Native.Nat.{◌+◌}
 use mathlib.Core.Path.{ap, ◌∙◌}
 use Rattle.calls.specs.Fields.{field_head}
-use Rattle.journal.specs.declared.places.Field.TheVariants.{To}
+use Rattle.std.specs.Prelude.{Some}
 use Rattle.journal.proofs.Ends.{end_short, end-other, end-cut, end_whole}
 use Rattle.journal.proofs.form.field_end.Goals as goal
 
@@ -15,9 +15,9 @@ returns-then-journal-at c =
 
 pub returns-then-journal-start : goal.returns-then-journal-start
 returns-then-journal-start c =
-    end-cut _ _ _ c.if-journal-at-lt-FIELD_HEAD.false c.if-journal-at.false (rw (c.wide_index-n.ensures.0 ∙ c.read16.ensures) at c.if-journal-start.true)
+    end-cut _ _ _ c.if-journal-at-lt-FIELD_HEAD.false c.if-journal-at.false (rw (c.from-n.ensures ∙ c.read16.ensures) at c.if-journal-start.true)
 
 pub returns : goal.returns
 returns c =
-    let e = c.wide_index-n.ensures.0 ∙ c.read16.ensures in
-    ap (λ n. To (c.args.at + field_head + n)) e ∙ end_whole _ _ _ c.if-journal-at-lt-FIELD_HEAD.false c.if-journal-at.false (rw e at c.if-journal-start.false)
+    let e = c.from-n.ensures ∙ c.read16.ensures in
+    ap (λ n. Some (c.args.at + field_head + n)) e ∙ end_whole _ _ _ c.if-journal-at-lt-FIELD_HEAD.false c.if-journal-at.false (rw e at c.if-journal-start.false)

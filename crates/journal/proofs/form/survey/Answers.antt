@@ -1,60 +1,37 @@
 use native.Mathlib.Omega.{arith}
 use mathlib.Core.Path.{sym, ◌∙◌}
 use Rattle.rules.specs.Limits.{max_conversions}
-use Rattle.journal.proofs.Ends.{are_bytes, is_further}
-use Rattle.journal.proofs.Walks.{walk_none, walk_starts, walk_ends, walk_zeros, walk_dirty, walk_stops, walk_full, walk_more}
+use Rattle.journal.proofs.Ends.{are_bytes}
+use Rattle.journal.proofs.Walks.{walk_none, turn_starts, turn_closes, turn_breaks, turn_more}
 use Rattle.journal.proofs.form.survey.Goals as goal
 
-pub held_end-head-requires : goal.held_end-head-requires
-held_end-head-requires c =
-    tt
+pub returns-in_err-held : goal.returns-in_err-held
+returns-in_err-held c =
+    rw c.from_residual.ensures (walk_none _ (are_bytes c.args.journal.now c.shared_slice_known-1.given) (sym c.in_err-held.was ∙ c.held_end.ensures))
 
-pub returns-in_default : goal.returns-in_default
-returns-in_default c =
-    walk_none _ (are_bytes c.args.journal.now c.shared_slice_known-1.given)
-    (sym c.in_default.is ∙ c.held_end-head.ensures)
+pub loop-count-init : goal.loop-count-init
+loop-count-init c =
+    turn_starts _ _ (are_bytes c.args.journal.now c.shared_slice_known-1.given) (sym c.in_ok-held.was ∙ c.held_end.ensures)
 
-pub loop-end-init : goal.loop-end-init
-loop-end-init c =
-    walk_starts _ _ (are_bytes c.args.journal.now c.shared_slice_known-1.given)
-    (sym c.in-To.is ∙ c.held_end-head.ensures)
-
-pub zero_from-zeros-requires : goal.zero_from-zeros-requires
-zero_from-zeros-requires c =
-    tt
-
-pub returns-then-zeros : goal.returns-then-zeros
-returns-then-zeros c =
-    walk_zeros (are_bytes c.args.journal.now c.shared_slice_known-1.given) c.loop-end.invariant
-    c.loop-end-test.true c.if-journal-end-eq0.true _ c.zero_from-zeros.ensures c.if-zeros.true
-
-pub returns-then-journal-end-eq0 : goal.returns-then-journal-end-eq0
-returns-then-journal-end-eq0 c =
-    walk_dirty (are_bytes c.args.journal.now c.shared_slice_known-1.given) c.loop-end.invariant
-    c.loop-end-test.true c.if-journal-end-eq0.true _ c.zero_from-zeros.ensures c.if-zeros.false
-
-pub returns-then-count-ge-MAX_CONVERSIONS : goal.returns-then-count-ge-MAX_CONVERSIONS
+pub returns-then-zero_from : goal.returns-then-zero_from
 unfolding max_conversions
-returns-then-count-ge-MAX_CONVERSIONS c =
-    walk_full (are_bytes c.args.journal.now c.shared_slice_known-1.given) c.loop-end.invariant
-    c.loop-end-test.true c.if-journal-end-eq0.false c.if-count-ge-MAX_CONVERSIONS.true
+returns-then-zero_from c =
+    turn_closes (are_bytes c.args.journal.now c.shared_slice_known-1.given) (omega arith) c.loop-count.invariant _ c.zero_from.ensures c.if-zero_from.true
 
-pub returns-in_default-entry : goal.returns-in_default-entry
-returns-in_default-entry c =
-    walk_stops (are_bytes c.args.journal.now c.shared_slice_known-1.given) c.loop-end.invariant
-    c.loop-end-test.true c.if-journal-end-eq0.false (sym c.in_default-entry.is ∙ c.entry_end-entry.ensures)
-
-pub loop-end-smaller : goal.loop-end-smaller
-loop-end-smaller c =
-    let h = is_further _ _ _ (sym c.in-To-entry.is ∙ c.entry_end-entry.ensures) in
-    omega (arith, h)
-
-pub loop-end-preserved : goal.loop-end-preserved
+pub returns-in_err-end : goal.returns-in_err-end
 unfolding max_conversions
-loop-end-preserved c =
-    walk_more (are_bytes c.args.journal.now c.shared_slice_known-1.given) c.loop-end.invariant
-    c.loop-end-test.true c.if-journal-end-eq0.false _ c.if-count-ge-MAX_CONVERSIONS.false (sym c.in-To-entry.is ∙ c.entry_end-entry.ensures)
+returns-in_err-end c =
+    rw c.from_residual-in_err-end.ensures
+    (turn_breaks (are_bytes c.args.journal.now c.shared_slice_known-1.given) (omega arith) c.loop-count.invariant _ c.zero_from.ensures c.if-zero_from.false
+    (sym c.in_err-end.was ∙ c.entry_end.ensures))
+
+pub loop-count-preserved : goal.loop-count-preserved
+unfolding max_conversions
+loop-count-preserved c =
+    turn_more (are_bytes c.args.journal.now c.shared_slice_known-1.given) (omega arith) c.loop-count.invariant _ c.zero_from.ensures c.if-zero_from.false _
+    (sym c.in_ok-end.was ∙ c.entry_end.ensures)
 
 pub returns : goal.returns
+unfolding max_conversions
 returns c =
-    walk_ends (are_bytes c.args.journal.now c.shared_slice_known-1.given) c.loop-end.invariant c.loop-end-test.false
+    c.loop-count.invariant.over (omega arith)

@@ -1,19 +1,15 @@
-use mathlib.Core.Path.{refl, sym, ◌∙◌}
-use Rattle.journal.proofs.Zeros.{zero-stops, zero_more, zero-ends}
+use Rattle.std.proofs.Common.{eqb, rules, tests}
+use native.Mathlib.Omega.{arith}
+use mathlib.Core.Path.{◌∙◌}
+use lib.ListN.{drop, length-drop}
+use lib.Seq.{take_all}
+use Rattle.std.proofs.lemmas.Iterator.{YieldsList-from_slice}
+use Rattle.std.proofs.lemmas.Iterator.Search.{all_from_yields_List}
+use Rattle.journal.proofs.Zeros.{zeros_all}
 use Rattle.journal.proofs.form.zero_from.Goals as goal
-
-pub loop-i-init : goal.loop-i-init
-loop-i-init c =
-    refl
-
-pub returns-then-journal-i-ne0 : goal.returns-then-journal-i-ne0
-returns-then-journal-i-ne0 c =
-    sym (c.loop-i.invariant ∙ zero-stops c.args.journal.now c.loop-i.i c.loop-i-test.true c.if-journal-i-ne0.true)
-
-pub loop-i-preserved : goal.loop-i-preserved
-loop-i-preserved c =
-    c.loop-i.invariant ∙ zero_more c.args.journal.now c.loop-i.i c.loop-i-test.true c.if-journal-i-ne0.false
 
 pub returns : goal.returns
 returns c =
-    sym (c.loop-i.invariant ∙ zero-ends c.args.journal.now c.loop-i.i c.loop-i-test.false)
+    all_from_yields_List {all = drop c.args.at c.args.journal.now} (λ x. eqb x 0) _ _ c.all.result c.all.ensures.ran
+    (YieldsList-from_slice _ (c.iter.ensures.rest ∙ take_all _ _ (omega (arith, length-drop c.args.at c.args.journal.now))))
+    (λ x b q k. search (rules, tests)) ∙ zeros_all _

@@ -1,4 +1,4 @@
-use native.Mathlib.Omega.{arith}
+use Rattle.std.proofs.Common.{arith}
 use mathlib.Core.Path.{ap₂}
 use Rattle.calltext.specs.Text.{text}
 use Rattle.calltext.specs.Answers.{two_numbers}
@@ -7,12 +7,8 @@ use Rattle.messages.proofs.replies.put_refusal.Goals as goal
 
 pub returns-clause-tells : goal.returns-clause-tells
 returns-clause-tells c =
-    let same = ap₂ (λ m n. two_numbers (text "refused ") m c.args.between.now n c.args.behind.now) c.number-number.ensures
-    c.place-place.ensures in
-    wrote_as c.two_numbers.ensures.tells same
+    wrote_as c.two_numbers.ensures.tells
+    (ap₂ (λ m n. two_numbers (text "refused ") m c.args.between.now n c.args.behind.now) c.number.ensures c.place.ensures)
 
 pub returns-clause-short : goal.returns-clause-short
-returns-clause-short c =
-    let same = ap₂ (λ m n. two_numbers (text "refused ") m c.args.between.now n c.args.behind.now) c.number-number.ensures
-    c.place-place.ensures in
-    omega (arith, c.two_numbers.ensures.short)
+returns-clause-short c = omega (arith, c.two_numbers.ensures.short)

@@ -14,7 +14,7 @@ put-requires c =
       c.put_where-told.ensures.0.kept,
       c.put_meaning-meant.ensures.ends,
       c.put_meaning-meant.ensures.kept,
-      meaning-short c.number-n.result,
+      meaning-short c.number.result,
       c.requires,
     )
 
@@ -22,4 +22,4 @@ pub returns : goal.returns
 unfolding refusal_text
 returns c =
     wrote-both (wrote-both c.put_where-told.ensures.0
-    (wrote_as c.put_meaning-meant.ensures (ap meaning_of c.number-n.ensures))) c.put.ensures
+    (wrote_as c.put_meaning-meant.ensures (ap meaning_of c.number.ensures))) c.put.ensures

@@ -42,7 +42,7 @@ pub returns-in_default-clause-fields : goal.returns-in_default-clause-fields
 returns-in_default-clause-fields c =
     record {
       answer = reading_malformed c.loop-at.invariant.0 c.loop-at-test.true
-          (none_formed _ _ _ (rw c.in_default.is at c.read_field.ensures));
+          (none_formed _ _ _ (rw c.in_default.is at (rw c.from.ensures at c.read_field.ensures)));
       counted = tt;
       buffers = c.loop-at.invariant.0.buffers;
     }
@@ -53,8 +53,8 @@ returns-in_default-clause-signed c =
 
 pub place-requires : goal.place-requires
 place-requires c =
-    reading_placeable c.loop-at.invariant.0 c.loop-at-test.true
-    (whole_formed _ _ _ _ _ (rw c.in-Whole.is at c.read_field.ensures))
+    let whole = rw c.in-Some.is at (rw c.from.ensures at c.read_field.ensures) in
+    record { placeable = reading_placeable c.loop-at.invariant.0 c.loop-at-test.true (whole_formed _ _ _ _ _ whole); tag_value = whole_tag _ _ _ _ _ whole }
 
 pub shape_of-types-in_default-place : goal.shape_of-types-in_default-place
 shape_of-types-in_default-place c =
@@ -70,7 +70,7 @@ shape_of-functions-in_default-place c =
 
 pub returns-in_default-place-clause-fields : goal.returns-in_default-place-clause-fields
 returns-in_default-place-clause-fields c =
-    let formed = whole_formed _ _ _ _ _ (rw c.in-Whole.is at c.read_field.ensures) in
+    let formed = whole_formed _ _ _ _ _ (rw c.in-Some.is at (rw c.from.ensures at c.read_field.ensures)) in
     record {
       answer = reading_over c.loop-at.invariant.0 c.loop-at-test.true formed
           (rw c.in_default-place.is at c.place.ensures);
@@ -81,18 +81,18 @@ returns-in_default-place-clause-fields c =
 
 pub returns-in_default-place-clause-signed : goal.returns-in_default-place-clause-signed
 returns-in_default-place-clause-signed c =
-    let formed = whole_formed _ _ _ _ _ (rw c.in-Whole.is at c.read_field.ensures) in
+    let formed = whole_formed _ _ _ _ _ (rw c.in-Some.is at (rw c.from.ensures at c.read_field.ensures)) in
     tt
 
 pub sign-requires : goal.sign-requires
 sign-requires c =
-    let whole = rw c.in-Whole.is at c.read_field.ensures in
-    signable _ c.loop-at.invariant.0.buffers c.loop-at.invariant.0.within (whole_formed _ _ _ _ _ whole) (rw c.in-More.is at c.place.ensures)
+    let whole = rw c.in-Some.is at (rw c.from.ensures at c.read_field.ensures) in
+    signable _ c.loop-at.invariant.0.buffers c.loop-at.invariant.0.within (whole_formed _ _ _ _ _ whole) (rw c.in-Some-place.is at c.place.ensures)
     (whole_tag _ _ _ _ _ whole)
 
 pub loop-at-smaller : goal.loop-at-smaller
 loop-at-smaller c =
-    let whole = rw c.in-Whole.is at c.read_field.ensures in
+    let whole = rw c.in-Some.is at (rw c.from.ensures at c.read_field.ensures) in
     omega (
       arith,
       whole_next _ _ _ _ _ whole,
@@ -102,15 +102,15 @@ loop-at-smaller c =
 
 pub loop-at-preserved : goal.loop-at-preserved
 loop-at-preserved c =
-    let whole = rw c.in-Whole.is at c.read_field.ensures in (
+    let whole = rw c.in-Some.is at (rw c.from.ensures at c.read_field.ensures) in (
       reading_more c.loop-at.invariant.0 c.loop-at-test.true (whole_formed _ _ _ _ _ whole)
-          (rw c.in-More.is at c.place.ensures) (buffers-kept c.loop-at.invariant.0.buffers c.place.auto.types c.place.auto.terms c.place.auto.functions)
+          (rw c.in-Some-place.is at c.place.ensures) (buffers-kept c.loop-at.invariant.0.buffers c.place.auto.types c.place.auto.terms c.place.auto.functions)
           (whole_tag _ _ _ _ _ whole) (whole_next _ _ _ _ _ whole),
       c.place.auto.types ∙ c.loop-at.invariant.1,
       c.place.auto.terms ∙ c.loop-at.invariant.2,
       c.place.auto.functions ∙ c.loop-at.invariant.3,
       signing-more _
-          c.loop-at.invariant.0.buffers c.loop-at.invariant.0.within (whole_formed _ _ _ _ _ whole) (rw c.in-More.is at c.place.ensures)
+          c.loop-at.invariant.0.buffers c.loop-at.invariant.0.within (whole_formed _ _ _ _ _ whole) (rw c.in-Some-place.is at c.place.ensures)
           (whole_tag _ _ _ _ _ whole) c.sign.ensures c.loop-at.invariant.4,
     )
 

@@ -1,7 +1,12 @@
 use mathlib.Core.Path.{sym, ◌∙◌}
 use Rattle.program.proofs.Found.{found_none, found_whole}
 use Rattle.program.proofs.Reading.{field-inside}
+use Rattle.program.proofs.TagCases.{tag-known}
 use Rattle.program.proofs.reader.field_at.Goals as goal
+
+pub unwrap-tag-requires : goal.unwrap-tag-requires
+unwrap-tag-requires c =
+    tag-known _ _ _ _ _ c.tag_at.ensures c.try_from.ensures (sym c.well_formed-2.ensures ∙ c.if-well_formed.true)
 
 pub next_at-next-requires : goal.next_at-next-requires
 next_at-next-requires c =
@@ -9,7 +14,8 @@ next_at-next-requires c =
 
 pub returns-then-well_formed : goal.returns-then-well_formed
 returns-then-well_formed c =
-    found_whole _ _ _ _ _ (sym c.well_formed-2.ensures ∙ c.if-well_formed.true) c.tag_at-tag.ensures c.next_at-next.ensures
+    found_whole _ _ _ _ _ (sym c.well_formed-2.ensures ∙ c.if-well_formed.true)
+    (rw c.unwrap-tag.ensures at c.try_from.ensures ∙ c.tag_at.ensures) c.next_at-next.ensures
 
 pub returns : goal.returns
 returns c =

@@ -12,10 +12,10 @@ function_parameters-n-requires c =
 pub loop-k-init : goal.loop-k-init
 unfolding max_parameters
 loop-k-init c =
-    (omega arith, none_filled _ _)
+    none_filled _ _
 
-pub listed-x-requires : goal.listed-x-requires
-listed-x-requires c =
+pub listed-requires : goal.listed-requires
+listed-requires c =
     omega (arith, function-room c.requires, c.function_parameters-n.ensures.0)
 
 pub offset_bounds-row-k : goal.offset_bounds-row-k
@@ -28,20 +28,12 @@ unfolding max_parameters
 bounds-row-k c =
     omega arith
 
-pub overflow_add-k : goal.overflow_add-k
-overflow_add-k c =
-    omega arith
-
-pub loop-k-smaller : goal.loop-k-smaller
-loop-k-smaller c =
-    omega arith
-
 pub loop-k-preserved : goal.loop-k-preserved
 unfolding max_parameters
 loop-k-preserved c =
-    (omega arith, one-filled (omega arith) c.listed-x.ensures c.loop-k.invariant.1)
+    one-filled (omega arith) c.listed.ensures c.loop-k.invariant
 
 pub returns : goal.returns
 returns c =
     all-filled c.requires (let e : c.loop-k.k ≡ c.function_parameters-n.result = omega arith in e
-    ∙ c.function_parameters-n.ensures.0) c.loop-k.invariant.1
+    ∙ c.function_parameters-n.ensures.0) c.loop-k.invariant

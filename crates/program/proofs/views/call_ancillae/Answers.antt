@@ -8,9 +8,9 @@ use Rattle.program.proofs.views.call_ancillae.Goals as goal
 pub overflow_sub-result : goal.overflow_sub-result
 unfolding length_at
 overflow_sub-result c =
-    omega (arith, c.wide_index-n.ensures.0 ∙ c.read16.ensures)
+    omega (arith, c.from-n.ensures ∙ c.read16.ensures)
 
 pub returns : goal.returns
 unfolding length_at call_ancillae
 returns c =
-    ap (λ n. (n - 5) / 2) (c.wide_index-n.ensures.0 ∙ c.read16.ensures)
+    ap (λ n. (n - 5) / 2) (c.from-n.ensures ∙ c.read16.ensures)

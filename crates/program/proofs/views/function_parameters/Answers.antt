@@ -1,4 +1,3 @@
-use mathlib.Core.Path.{◌∙◌}
 use native.Mathlib.Omega.{arith}
 use package.Rattle.calls.specs.Fields.{parameters_at}
 use Rattle.program.proofs.views.function_parameters.Goals as goal
@@ -6,4 +5,4 @@ use Rattle.program.proofs.views.function_parameters.Goals as goal
 pub returns : goal.returns
 unfolding parameters_at
 returns c =
-    (c.wide_index.ensures.0 ∙ c.wide16.ensures.0, omega arith)
+    (c.from.ensures, omega arith)

@@ -1,5 +1,5 @@
 use native.Mathlib.Omega.{arith}
-use mathlib.Core.Path.{◌∙◌}
+use Rattle.program.proofs.KindCases.{term-known}
 use Rattle.program.proofs.Rooms.{term-kind, term-kind-room}
 use Rattle.program.proofs.views.term_kind.Goals as goal
 
@@ -7,7 +7,6 @@ pub kind-requires : goal.kind-requires
 kind-requires c =
     term-kind-room c.requires
 
-pub returns : goal.returns
-returns c =
-    let e = c.wide_index.ensures.0 ∙ c.wide16.ensures.0 ∙ c.kind.ensures in
-    (e, omega (arith, e, term-kind c.requires))
+pub unwrap-requires : goal.unwrap-requires
+unwrap-requires c =
+    term-known _ _ c.try_from.ensures (omega (arith, c.kind.ensures, term-kind c.requires))

@@ -1,9 +1,5 @@
-use mathlib.Core.Path.{refl}
-use Rattle.octets.specs.Numbers.{bytes16, bytes32}
-use Rattle.replay.specs.Lines.{line_of}
+use Rattle.replay.proofs.Lines.{line_bytes}
 use Rattle.replay.proofs.told.line_of.Goals as goal
 
 pub returns : goal.returns
-unfolding line_of bytes16 bytes32
-returns c =
-    refl
+returns c = rw (c.to_be_bytes.ensures, c.to_be_bytes-2.ensures) (line_bytes c.args.kind c.args.number c.args.detail)

@@ -7,4 +7,4 @@ use Rattle.requests.proofs.preparing.enough.Goals as goal
 pub returns : goal.returns
 unfolding workspace_for workspace_base workspace_per_fuel
 returns c =
-    ap (λ k. leb (workspace_for k) c.args.n) c.wide_index.ensures.0
+    ap (λ k. leb (workspace_for k) c.args.n) c.from.ensures

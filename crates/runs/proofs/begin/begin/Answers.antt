@@ -1,15 +1,11 @@
 use mathlib.Core.Path.{◌∙◌}
-use Rattle.runs.proofs.Loads.{begun-ready, begun}
+use Rattle.runs.proofs.Loads.{begun_with}
 use Rattle.runs.proofs.begin.begin.Goals as goal
 
-pub load-top-requires : goal.load-top-requires
-load-top-requires c =
-    begun-ready c.requires.beginning c.load_ancillae-start.ensures.loaded
+pub begin-requires : goal.begin-requires
+begin-requires c =
+    c.load-start.ensures.lengths ∙ c.requires.st_len
 
 pub returns : goal.returns
 returns c =
-    record {
-      lengths = c.bind.ensures.lengths ∙ c.load_ancillae-start.ensures.lengths;
-      begun = begun c.requires.beginning c.load_ancillae-start.ensures.loaded c.load-top.ensures
-          c.bind.ensures.slots;
-    }
+    begun_with c.load-start.ensures c.begin.ensures c.from.ensures

@@ -39,7 +39,7 @@ length_of-requires c =
 
 pub overflow_sub-node-in-loop-node : goal.overflow_sub-node-in-loop-node
 overflow_sub-node-in-loop-node c =
-    omega (arith, named_length c.loop-node.invariant.2 c.loop-node-test.true, c.wide32-node.ensures.0, c.length_of.ensures)
+    omega (arith, named_length c.loop-node.invariant.2 c.loop-node-test.true, c.from-node.ensures, c.length_of.ensures)
 
 pub overflow_add-count : goal.overflow_add-count
 overflow_add-count c =
@@ -47,14 +47,14 @@ overflow_add-count c =
 
 pub loop-node-smaller : goal.loop-node-smaller
 loop-node-smaller c =
-    named_less c.loop-node.invariant.2 c.loop-node-test.true _ (c.wide32-node.ensures.0 ∙ c.length_of.ensures)
+    named_less c.loop-node.invariant.2 c.loop-node-test.true _ (c.from-node.ensures ∙ c.length_of.ensures)
 
 pub loop-node-preserved : goal.loop-node-preserved
 loop-node-preserved c = (
   c.bind.ensures.lengths ∙ c.loop-node.invariant.0,
   c.bind.ensures.lengths ∙ c.loop-node.invariant.1,
   named_next c.loop-node.invariant.2 c.loop-node-test.true
-      c.bind.ensures.slots (c.wide32-node.ensures.0 ∙ c.length_of.ensures),
+      c.bind.ensures.slots (c.from-node.ensures ∙ c.length_of.ensures),
 )
 
 pub shape_of-ws : goal.shape_of-ws

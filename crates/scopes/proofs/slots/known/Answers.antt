@@ -1,7 +1,7 @@
 use native.Mathlib.Omega.{arith}
 use mathlib.Core.Path.{sym, ap, ◌∙◌}
+use Rattle.std.specs.Prelude.{Some}
 use Rattle.scopes.specs.Slots.{unknown}
-use Rattle.scopes.specs.declared.slots.Found.TheVariants.{Node}
 use Rattle.scopes.proofs.Marks.{found-mark, found-node, found-cell, cell_room}
 use Rattle.scopes.proofs.slots.known.Goals as goal
 
@@ -23,4 +23,4 @@ left_of-requires c =
 pub returns : goal.returns
 unfolding unknown
 returns c =
-    ap Node c.left_of.ensures ∙ sym (found-cell c.args.ws.now c.args.number (omega arith))
+    ap Some c.left_of.ensures ∙ sym (found-cell c.args.ws.now c.args.number (omega arith))

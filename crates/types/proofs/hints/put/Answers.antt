@@ -3,4 +3,4 @@ use Rattle.types.proofs.hints.put.Goals as goal
 
 pub returns : goal.returns
 returns c =
-    noted-put c.args.ws.now c.place.result c.args.c c.place.ensures.0 c.put_code.ensures
+    noted-put c.args.ws.now c.place.result c.args.c c.place.ensures.0 c.put_code.ensures.0

@@ -1,34 +1,30 @@
 use native.Mathlib.Omega.{arith}
-use mathlib.Core.Path.{refl}
-use Rattle.program.proofs.Rooms.{type-kind-room}
-use Rattle.types.proofs.Entries.{pair-room, two-asked}
-use Rattle.types.proofs.Hinting.{noted_none}
+use mathlib.Core.Path.{sym, ap, ◌∙◌}
+use Rattle.program.specs.KindNumbers.{type_kind_number}
+use Rattle.program.specs.declared.kinds.TypeKind.TheVariants as T
+use Rattle.program.proofs.Rooms.{prod-room}
+use Rattle.types.proofs.Entries.{product-asked}
+use Rattle.types.proofs.Tracing.{kind-is}
 use Rattle.types.proofs.hints.put_entry.Goals as goal
-
-pub kind-kind-requires : goal.kind-kind-requires
-kind-kind-requires c =
-    type-kind-room c.requires.type_field.0
 
 pub first-requires : goal.first-requires
 first-requires c =
-    omega (arith, pair-room c.requires.type_field.0 c.kind-kind.ensures (λ z. omega (arith, z, c.if-kind-eq-PRODUCT.true)) (omega (arith, c.if-kind-eq-PRODUCT.true)))
+    let is = kind-is {k' = T.Product} c.eq.ensures c.if-eq.true in
+    omega (arith, prod-room c.requires.type_field.0 (sym c.type_kind.ensures ∙ ap type_kind_number is))
 
 pub number_of-requires : goal.number_of-requires
 number_of-requires c =
-    let asked = two-asked c.args.p.now c.args.at c.kind-kind.ensures c.requires.type_field.1 (λ z. omega (arith, z, c.if-kind-eq-PRODUCT.true))
-    (omega (arith, c.if-kind-eq-PRODUCT.true)) c.requires.at_value c.first.ensures refl in
-    (c.requires.type_field.1, asked.2)
+    let is = kind-is {k' = T.Product} c.eq.ensures c.if-eq.true in
+    let l = product-asked c.args.ws.now c.args.p.now c.args.at c.requires.at_value (ap type_kind_number (sym is) ∙ c.type_kind.ensures) in
+    omega (arith, c.first.ensures, l.0)
 
 pub second-requires : goal.second-requires
 second-requires c =
-    pair-room c.requires.type_field.0 c.kind-kind.ensures (λ z. omega (arith, z, c.if-kind-eq-PRODUCT.true)) (omega (arith, c.if-kind-eq-PRODUCT.true))
+    let is = kind-is {k' = T.Product} c.eq.ensures c.if-eq.true in
+    prod-room c.requires.type_field.0 (sym c.type_kind.ensures ∙ ap type_kind_number is)
 
-pub number_of-requires-then-kind-eq-PRODUCT : goal.number_of-requires-then-kind-eq-PRODUCT
-number_of-requires-then-kind-eq-PRODUCT c =
-    let asked = two-asked c.args.p.now c.args.at c.kind-kind.ensures c.requires.type_field.1 (λ z. omega (arith, z, c.if-kind-eq-PRODUCT.true))
-    (omega (arith, c.if-kind-eq-PRODUCT.true)) c.requires.at_value c.first.ensures c.second.ensures in
-    (c.requires.type_field.1, asked.3)
-
-pub returns-else-kind-eq-PRODUCT : goal.returns-else-kind-eq-PRODUCT
-returns-else-kind-eq-PRODUCT c =
-    noted_none _
+pub number_of-requires-then-eq : goal.number_of-requires-then-eq
+number_of-requires-then-eq c =
+    let is = kind-is {k' = T.Product} c.eq.ensures c.if-eq.true in
+    let l = product-asked c.args.ws.now c.args.p.now c.args.at c.requires.at_value (ap type_kind_number (sym is) ∙ c.type_kind.ensures) in
+    omega (arith, c.second.ensures, l.1)

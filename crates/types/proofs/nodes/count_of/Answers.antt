@@ -7,4 +7,4 @@ use Rattle.types.proofs.nodes.count_of.Goals as goal
 pub returns : goal.returns
 unfolding count_at
 returns c =
-    c.read16.ensures ∙ ap (λ n. get16 c.args.ws.now (14 * n + 12)) c.wide_index.ensures.0
+    c.read16.ensures ∙ ap (λ n. get16 c.args.ws.now (14 * n + 12)) c.from.ensures

@@ -6,4 +6,4 @@ use Rattle.types.proofs.nodes.left_of.Goals as goal
 pub returns : goal.returns
 unfolding left_at
 returns c =
-    c.code_at.ensures ∙ ap (λ n. code_at c.args.ws.now (14 * n)) c.wide_index.ensures.0
+    c.code_at.ensures ∙ ap (λ n. code_at c.args.ws.now (14 * n)) c.from.ensures

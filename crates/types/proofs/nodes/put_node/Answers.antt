@@ -4,4 +4,4 @@ use Rattle.types.proofs.nodes.put_node.Goals as goal
 pub returns : goal.returns
 unfolding put_node
 returns c =
-    cc c.wide_index-at.ensures.0
+    cc c.from-at.ensures

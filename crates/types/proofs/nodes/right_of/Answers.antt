@@ -6,4 +6,4 @@ use Rattle.types.proofs.nodes.right_of.Goals as goal
 pub returns : goal.returns
 unfolding right_at
 returns c =
-    c.code_at.ensures ∙ ap (λ n. code_at c.args.ws.now (14 * n + 6)) c.wide_index.ensures.0
+    c.code_at.ensures ∙ ap (λ n. code_at c.args.ws.now (14 * n + 6)) c.from.ensures

@@ -34,16 +34,16 @@ bounds-row-last c =
 pub bind-requires-clause-scoped : goal.bind-requires-clause-scoped
 unfolding max_parameters
 bind-requires-clause-scoped c =
-    ancillae-scoped c.requires.sources c.bind_ancillae.ensures (omega (arith, c.requires.signed.formed.few))
-    c.none-none.ensures
+    rw c.parameters.ensures.fields (ancillae-scoped c.requires.sources c.bind_ancillae.ensures (omega (arith, c.requires.signed.formed.few))
+    c.parameters.ensures.none_owed)
 
 pub bind-requires-clause-known : goal.bind-requires-clause-known
 unfolding max_parameters
 bind-requires-clause-known c = (
-  parameter_known c.requires.signed 0 (omega (arith, c.requires.signed.formed.some)) c.entry-c.ensures,
-  omega (arith, c.requires.signed.formed.few),
+  parameter_known c.requires.signed 0 (omega (arith, c.requires.signed.formed.some)) refl,
+  rw c.parameters.ensures.fields (omega (arith, c.requires.signed.formed.few)),
 )
 
 pub returns : goal.returns
 returns c =
-    all-bound c.requires.signed c.bind_ancillae.ensures (omega arith) refl c.entry-c.ensures c.bind.ensures
+    all-bound c.requires.signed c.bind_ancillae.ensures (omega arith) refl refl c.parameters.ensures.fields c.bind.ensures

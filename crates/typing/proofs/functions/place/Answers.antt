@@ -5,7 +5,7 @@ use Rattle.typing.proofs.functions.place.Goals as goal
 
 pub returns-then-k-terms : goal.returns-then-k-terms
 returns-then-k-terms c =
-    c.wide_index.ensures.0
+    c.from.ensures
 
 pub returns : goal.returns
 returns c =

@@ -19,4 +19,4 @@ returns-then-waits_on c =
 pub returns : goal.returns
 returns c =
     read-refused _ _ _ _ _ c.read16-variable.ensures c.cell-at.ensures.0 c.if-variable.false c.helped.ensures
-    c.if-helped.false c.waits_on.ensures c.if-waits_on.false c.read16.ensures c.met.ensures
+    c.if-helped.false c.waits_on.ensures c.if-waits_on.false c.read16.ensures c.lowest.ensures

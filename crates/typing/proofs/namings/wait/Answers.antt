@@ -5,6 +5,6 @@ use Rattle.typing.proofs.namings.wait.Goals as goal
 
 pub returns : goal.returns
 returns c =
-    put-waits _ _ _ c.requires.0 c.requires.1 (omega (arith, c.wide16.ensures)) (search rules)
-    c.count-n.ensures c.cell-at.ensures.0 c.wide16.ensures.0
+    put-waits _ _ _ c.requires.0 c.requires.1 (omega (arith, c.from.ensures)) (search rules)
+    c.count-n.ensures c.cell-at.ensures.0 c.from.ensures
     c.write16.ensures c.write16-2.ensures c.write16-3.ensures

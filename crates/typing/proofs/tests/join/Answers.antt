@@ -4,4 +4,4 @@ use Rattle.typing.proofs.tests.join.Goals as goal
 
 pub returns : goal.returns
 returns c =
-    (refl, joins refl refl c.union-all.ensures)
+    joins refl refl c.union.ensures

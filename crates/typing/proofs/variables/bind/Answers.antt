@@ -1,23 +1,12 @@
-use native.Mathlib.Omega.{arith}
 use Rattle.typing.proofs.Naming.{opened-unit, opened-used}
 use Rattle.typing.proofs.variables.bind.Goals as goal
 
 pub returns-then-is_unit : goal.returns-then-is_unit
 returns-then-is_unit c =
-    opened-unit c.requires.scoped _ c.requires.known.0 c.requires.known.1 (record {
-      form = omega (arith, c.well_formed.1.1.1.1.1.1.0);
-      at = omega (arith, c.well_formed.1.1.1.1.1.1.0);
-      stands =
-          omega (arith, c.well_formed.1.1.1.1.1.1.0);
-    }) c.slot.ensures.0 c.put_code.ensures
+    opened-unit c.requires.scoped _ c.requires.known.0 c.requires.known.1 c.slot.ensures.0 c.put_code.ensures.0 c.put_code.ensures.1
     c.is_unit.ensures c.if-is_unit.true
 
 pub returns : goal.returns
 returns c =
-    opened-used c.requires.scoped _ c.requires.known.0 c.requires.known.1 (record {
-      form = omega (arith, c.well_formed.1.1.1.1.1.1.0);
-      at = omega (arith, c.well_formed.1.1.1.1.1.1.0);
-      stands =
-          omega (arith, c.well_formed.1.1.1.1.1.1.0);
-    }) c.slot.ensures.0 c.put_code.ensures
-    c.is_unit.ensures c.if-is_unit.false c.only-mine.ensures c.union-owed.ensures
+    opened-used c.requires.scoped _ c.requires.known.0 c.requires.known.1 c.slot.ensures.0 c.put_code.ensures.0 c.put_code.ensures.1
+    c.is_unit.ensures c.if-is_unit.false c.only.ensures c.union.ensures

@@ -1,6 +1,5 @@
-use mathlib.Core.Path.{refl}
 use Rattle.typing.proofs.variables.named.Goals as goal
 
 pub returns : goal.returns
 returns c =
-    record { same = refl; found = _; is = refl; code = c.code_of-code.ensures; uses = c.only-uses.ensures }
+    record { code = c.code_of.ensures; uses = c.only.ensures }

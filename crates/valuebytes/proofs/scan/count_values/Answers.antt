@@ -15,19 +15,20 @@ unfolding max_ancilla_bytes
 loop-at-init c =
     (search rules, search rules, search rules, count-start _ c.if-s-gt-MAX_ANCILLA_BYTES.false)
 
-pub returns-in_default : goal.returns-in_default
+pub returns-in_err-at : goal.returns-in_err-at
 unfolding max_value_bytes max_ancilla_bytes
-returns-in_default c =
-    count-stops _ _ _ c.loop-at-test.true c.loop-at.invariant.1 c.loop-at.invariant.3 c.loop-at.invariant.2 (sym c.in_default.is ∙ c.value_end-end.ensures)
+returns-in_err-at c =
+    c.from_residual.ensures
+    ∙ count-stops _ _ _ c.loop-at-test.true c.loop-at.invariant.1 c.loop-at.invariant.3 c.loop-at.invariant.2 (sym c.in_err-at.was ∙ c.value_end.ensures)
 
 pub loop-at-smaller : goal.loop-at-smaller
 loop-at-smaller c =
-    let h = end-within _ _ _ (ended _ _ _ (sym c.in-At.is ∙ c.value_end-end.ensures)) in
+    let h = end-within _ _ _ (ended _ _ _ (sym c.in_ok-at.was ∙ c.value_end.ensures)) in
     search rules
 
 pub loop-at-preserved : goal.loop-at-preserved
 loop-at-preserved c =
-    let p = sym c.in-At.is ∙ c.value_end-end.ensures in
+    let p = sym c.in_ok-at.was ∙ c.value_end.ensures in
     let h = end-within _ _ _ (ended _ _ _ p) in
     (search rules, search rules, c.loop-at.invariant.2, count-more _ _ _ c.loop-at-test.true c.loop-at.invariant.1 c.loop-at.invariant.3 _ p)
 

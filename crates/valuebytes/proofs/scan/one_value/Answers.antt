@@ -1,11 +1,7 @@
-use mathlib.Core.Path.{sym, ◌∙◌}
-use Rattle.valuebytes.proofs.Whole.{value-at, value_not}
+use mathlib.Core.Path.{◌∙◌}
+use Rattle.valuebytes.proofs.Whole.{value-ends}
 use Rattle.valuebytes.proofs.scan.one_value.Goals as goal
 
-pub returns-in-At : goal.returns-in-At
-returns-in-At c =
-    value-at _ _ (sym c.in-At.is ∙ c.value_end.ensures)
-
-pub returns-in-Malformed : goal.returns-in-Malformed
-returns-in-Malformed c =
-    value_not _ (sym c.in-Malformed.is ∙ c.value_end.ensures)
+pub returns : goal.returns
+returns c =
+    c.eq.ensures ∙ value-ends _ _ c.value_end.ensures

@@ -1,44 +1,42 @@
-use Prim.Native.Nat.{◌-◌}
+use Prim.Native.Nat.{◌+◌, ◌-◌}
 use native.Mathlib.Omega.{arith}
-use lib.ListN.{get_or}
-use borrow.Author.Rules.{rules}
+use mathlib.Core.Path.{sym, ap, ◌∙◌}
+use lib.ListN.{drop}
 use Rattle.rules.specs.Limits.{max_value_bytes}
-use Rattle.valuebytes.proofs.Pending.{pending-most}
-use Rattle.valuebytes.proofs.Ends.{scan_start, scan_turn, end_short, end-long, end-over, end_done}
+use Rattle.valuebytes.specs.Ends.{pending}
+use Rattle.valuebytes.proofs.ByteKinds.{kind-found, kind-none, kind-within}
+use Rattle.valuebytes.proofs.Ends.{scan_start, scan_turn, end-over, end_done, end_stopped}
 use Rattle.valuebytes.proofs.scan.value_end.Goals as goal
 
-pub loop-count-init : goal.loop-count-init
-loop-count-init c =
-    (search rules, search rules, search rules, scan_start _ c.args.at)
+pub loop-i-init : goal.loop-i-init
+loop-i-init c =
+    (omega arith, omega arith, scan_start _ c.args.at)
 
-pub returns-then-s-i : goal.returns-then-s-i
-returns-then-s-i c =
-    end_short _ _ _ _ c.loop-count.invariant.0 c.loop-count.invariant.3 c.loop-count-test.true c.if-s-i.true
+pub returns-in_err-kind : goal.returns-in_err-kind
+returns-in_err-kind c =
+    c.from_residual.ensures
+    ∙ end-over _ _ _ _ c.loop-i.auto.i c.loop-i.invariant.2 c.loop-i.invariant.0 (omega arith)
+    (kind-none _ _ c.try_from.ensures (sym c.ok.ensures.value ∙ c.in_err-kind.was))
 
-pub returns-then-i-at-ge-MAX_VALUE_BYTES : goal.returns-then-i-at-ge-MAX_VALUE_BYTES
+pub returns-then-pending-eq0 : goal.returns-then-pending-eq0
 unfolding max_value_bytes
-returns-then-i-at-ge-MAX_VALUE_BYTES c =
-    end-long _ _ _ _ _ c.loop-count.invariant.3 c.loop-count-test.true c.if-i-at-ge-MAX_VALUE_BYTES.true
+returns-then-pending-eq0 c =
+    let k = kind-found _ _ _ c.try_from.ensures (sym c.ok.ensures.value ∙ c.in_ok-kind.was) in
+    end_done (drop c.args.at c.args.s.now) c.args.at (c.loop-i.i + 1 - c.args.at) (drop (c.loop-i.i + 1) c.args.s.now) (c.loop-i.pending - 1 + c.parts.result)
+    (scan_turn c.args.s.now c.args.at c.loop-i.i c.loop-i.pending c.loop-i.auto.i c.loop-i.invariant.2 (c.loop-i.pending - 1 + c.parts.result) c.loop-i.invariant.0
+    (omega arith) (omega (arith, k, kind-within c.in_ok-kind.kind)) (c.parts.ensures.parts _ ∙ ap (λ k. pending k (c.loop-i.pending - 1)) k))
+    (omega arith) (omega (arith, c.saturating_add.ensures)) _ (omega arith)
 
-pub returns-then-k-gt4 : goal.returns-then-k-gt4
-returns-then-k-gt4 c =
-    end-over _ _ _ _ c.loop-count.invariant.0 c.loop-count.invariant.3 c.loop-count-test.true c.if-s-i.false c.if-k-gt4.true
-
-pub next_pending-count-requires : goal.next_pending-count-requires
-next_pending-count-requires c =
-    omega arith
-
-pub loop-count-preserved : goal.loop-count-preserved
-unfolding max_value_bytes
-loop-count-preserved c = (
-  omega arith,
-  omega arith,
-  omega (arith, c.next_pending-count.ensures, pending-most (get_or c.args.s.now c.loop-count.i 0) (c.loop-count.count - 1)),
-  scan_turn _ _ _ _ c.loop-count.invariant.0 c.loop-count.invariant.3 _ c.loop-count-test.true c.if-s-i.false
-      c.if-k-gt4.false c.next_pending-count.ensures,
-)
+pub loop-i-preserved : goal.loop-i-preserved
+loop-i-preserved c =
+    let k = kind-found _ _ _ c.try_from.ensures (sym c.ok.ensures.value ∙ c.in_ok-kind.was) in (
+      omega arith,
+      omega (arith, c.parts.ensures.few),
+      scan_turn c.args.s.now c.args.at c.loop-i.i c.loop-i.pending c.loop-i.auto.i c.loop-i.invariant.2 (c.loop-i.pending - 1 + c.parts.result) c.loop-i.invariant.0
+          (omega arith) (omega (arith, k, kind-within c.in_ok-kind.kind)) (c.parts.ensures.parts _ ∙ ap (λ k. pending k (c.loop-i.pending - 1)) k),
+    )
 
 pub returns : goal.returns
 unfolding max_value_bytes
 returns c =
-    end_done _ _ _ _ _ c.loop-count.invariant.3 c.loop-count-test.false c.loop-count.invariant.1 _ (omega arith)
+    end_stopped _ _ _ _ c.loop-i.auto.i c.loop-i.invariant.2 c.loop-i.invariant.0 (omega (arith, c.saturating_add.ensures)) (omega arith)

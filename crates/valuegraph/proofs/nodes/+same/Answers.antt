@@ -1,206 +1,60 @@
+use Prim.Native.Nat.{ℕ}
 use native.Mathlib.Omega.{arith}
-use mathlib.Core.Path.{sym, ◌∙◌}
-use borrow.Author.Tests.{not-true, not-false}
-use Rattle.valuegraph.proofs.Equal.{Alike, PartRead, compare_start, compare_rooms, compare_done, compare_apart, both-units}
-use Rattle.valuegraph.proofs.Equal.{compare_one, parts_rooms, part-below, part-differs, compare_other}
+use mathlib.Core.Path.{sym, ap, ◌∙◌}
+use Rattle.valuegraph.specs.Nodes.{kind_number}
+use Rattle.valuegraph.proofs.Numbered.{kind_read, single_of}
+use Rattle.valuegraph.proofs.Equal.{Alike, PartRead, compare_done, compare_apart, both-units, compare_one, part-below, part-differs, compare_other}
+use Rattle.valuegraph.proofs.nodes.+same.Goals.{After-kind_of, After-part_of-in-Pair}
 use Rattle.valuegraph.proofs.nodes.+same.Goals as goal
 
-pub loop-x-init : goal.loop-x-init
-loop-x-init t c =
-    compare_start c.requires.heap c.requires.a_lt_top
+pub returns-then-not-alike : goal.returns-then-not-alike
+returns-then-not-alike t c =
+    compare_apart c.loop-x.invariant c.alike.ensures c.if-not-alike.true
 
-pub alike-close-requires-clause-room : goal.alike-close-requires-clause-room
-alike-close-requires-clause-room t c =
-    omega (arith, compare_rooms c.loop-x.invariant)
+-- the two nodes are alike
+alike-there : {t : ℕ} (c : After-kind_of t) → Alike c.args.ws.now c.args.top c.args.a c.args.b c.loop-x.x c.loop-x.y (kind_number c.kind_of.result)
+alike-there c = record {
+  comparing = c.loop-x.invariant;
+  alike = sym c.alike.ensures ∙ c.if-not-alike.false;
+  kind = kind_read c.requires.heap c.loop-x.invariant.below.0 c.kind_of.ensures;
+}
 
-pub alike-close-requires-clause-room_2 : goal.alike-close-requires-clause-room_2
-alike-close-requires-clause-room_2 t c =
-    omega (arith, compare_rooms c.loop-x.invariant)
+-- and pairs, of which one part each was read
+part-there : {t : ℕ} (c : After-part_of-in-Pair t) → PartRead c.args.ws.now c.args.top c.args.a c.args.b c.loop-x.x c.loop-x.y (kind_number c.kind_of.result)
+    c.left_shorter-left.result c.part_of.result c.part_of-in-Pair.result
+part-there {t} c = record {
+  node = alike-there (goal.at.same-requires t c).After-kind_of;
+  three = ap kind_number c.in-Pair.is;
+  part = c.part_of.ensures;
+  part' = c.part_of-in-Pair.ensures;
+}
 
-pub returns-then-not-close : goal.returns-then-not-close
-returns-then-not-close t c =
-    compare_apart c.loop-x.invariant c.alike-close.ensures (not-true _ c.if-not-close.true-raw)
+pub returns-in-Unit : goal.returns-in-Unit
+returns-in-Unit t c =
+    both-units (alike-there (goal.at.returns-in-Unit t c).After-kind_of) (ap kind_number c.in-Unit.is)
 
-pub kind_of-shared-requires : goal.kind_of-shared-requires
-kind_of-shared-requires t c =
-    omega (arith, compare_rooms c.loop-x.invariant)
-
-pub returns-then-shared-eq-UNIT : goal.returns-then-shared-eq-UNIT
-returns-then-shared-eq-UNIT t c =
-    both-units ((let it : Alike c.args.ws.now c.args.top c.args.a c.args.b c.loop-x.x c.loop-x.y c.kind_of-shared.result = record {
-      comparing = c.loop-x.invariant;
-      alike = sym c.alike-close.ensures ∙ not-false _ c.if-not-close.false-raw;
-      kind = c.kind_of-shared.ensures;
-    } in it)) c.if-shared-eq-UNIT.true
-
-pub left_of-x-requires : goal.left_of-x-requires
-left_of-x-requires t c =
-    omega (
-      arith,
-      compare_rooms ((let it : Alike c.args.ws.now c.args.top c.args.a c.args.b c.loop-x.x c.loop-x.y c.kind_of-shared.result = record {
-        comparing = c.loop-x.invariant;
-        alike = sym c.alike-close.ensures ∙ not-false _ c.if-not-close.false-raw;
-        kind = c.kind_of-shared.ensures;
-      } in it)).comparing,
-    )
-
-pub left_of-y-requires : goal.left_of-y-requires
-left_of-y-requires t c =
-    omega (
-      arith,
-      compare_rooms ((let it : Alike c.args.ws.now c.args.top c.args.a c.args.b c.loop-x.x c.loop-x.y c.kind_of-shared.result = record {
-        comparing = c.loop-x.invariant;
-        alike = sym c.alike-close.ensures ∙ not-false _ c.if-not-close.false-raw;
-        kind = c.kind_of-shared.ensures;
-      } in it)).comparing,
-    )
-
-pub loop-x-smaller-then-shared-ne-PAIR : goal.loop-x-smaller-then-shared-ne-PAIR
-loop-x-smaller-then-shared-ne-PAIR t c =
-    (compare_one ((let it : Alike c.args.ws.now c.args.top c.args.a c.args.b c.loop-x.x c.loop-x.y c.kind_of-shared.result = record {
-      comparing = c.loop-x.invariant;
-      alike = sym c.alike-close.ensures ∙ not-false _ c.if-not-close.false-raw;
-      kind = c.kind_of-shared.ensures;
-    } in it)) c.if-shared-eq-UNIT.false c.if-shared-ne-PAIR.true c.left_of-x.ensures c.left_of-y.ensures).1
-
-pub loop-x-preserved-then-shared-ne-PAIR : goal.loop-x-preserved-then-shared-ne-PAIR
-loop-x-preserved-then-shared-ne-PAIR t c =
-    (compare_one ((let it : Alike c.args.ws.now c.args.top c.args.a c.args.b c.loop-x.x c.loop-x.y c.kind_of-shared.result = record {
-      comparing = c.loop-x.invariant;
-      alike = sym c.alike-close.ensures ∙ not-false _ c.if-not-close.false-raw;
-      kind = c.kind_of-shared.ensures;
-    } in it)) c.if-shared-eq-UNIT.false c.if-shared-ne-PAIR.true c.left_of-x.ensures c.left_of-y.ensures).0
-
-pub left_shorter-left-requires-clause-room : goal.left_shorter-left-requires-clause-room
-left_shorter-left-requires-clause-room t c =
-    let w = (let it : Alike c.args.ws.now c.args.top c.args.a c.args.b c.loop-x.x c.loop-x.y c.kind_of-shared.result = record {
-      comparing = c.loop-x.invariant;
-      alike = sym c.alike-close.ensures ∙ not-false _ c.if-not-close.false-raw;
-      kind = c.kind_of-shared.ensures;
-    } in it) in
-    (compare_rooms w.comparing).0
-
-pub left_shorter-left-requires-clause-room_2 : goal.left_shorter-left-requires-clause-room_2
-left_shorter-left-requires-clause-room_2 t c =
-    let w = (let it : Alike c.args.ws.now c.args.top c.args.a c.args.b c.loop-x.x c.loop-x.y c.kind_of-shared.result = record {
-      comparing = c.loop-x.invariant;
-      alike = sym c.alike-close.ensures ∙ not-false _ c.if-not-close.false-raw;
-      kind = c.kind_of-shared.ensures;
-    } in it) in
-    parts_rooms w c.if-shared-eq-UNIT.false
-
-pub part_of-requires : goal.part_of-requires
-part_of-requires t c =
-    omega (
-      arith,
-      compare_rooms ((let it : Alike c.args.ws.now c.args.top c.args.a c.args.b c.loop-x.x c.loop-x.y c.kind_of-shared.result = record {
-        comparing = c.loop-x.invariant;
-        alike = sym c.alike-close.ensures ∙ not-false _ c.if-not-close.false-raw;
-        kind = c.kind_of-shared.ensures;
-      } in it)).comparing,
-    )
-
-pub part_of-requires-in-loop-x : goal.part_of-requires-in-loop-x
-part_of-requires-in-loop-x t c =
-    omega (
-      arith,
-      compare_rooms ((let it : Alike c.args.ws.now c.args.top c.args.a c.args.b c.loop-x.x c.loop-x.y c.kind_of-shared.result = record {
-        comparing = c.loop-x.invariant;
-        alike = sym c.alike-close.ensures ∙ not-false _ c.if-not-close.false-raw;
-        kind = c.kind_of-shared.ensures;
-      } in it)).comparing,
-    )
-
-pub same-agree-requires : goal.same-agree-requires
-same-agree-requires t c =
-    let w = part-below ((let it : PartRead c.args.ws.now c.args.top c.args.a c.args.b c.loop-x.x c.loop-x.y c.kind_of-shared.result
-    c.left_shorter-left.result c.part_of.result c.part_of-in-loop-x.result = record {
-      node = (let it : Alike c.args.ws.now c.args.top c.args.a c.args.b c.loop-x.x c.loop-x.y c.kind_of-shared.result = record {
-        comparing = c.loop-x.invariant;
-        alike = sym c.alike-close.ensures ∙ not-false _ c.if-not-close.false-raw;
-        kind = c.kind_of-shared.ensures;
-      } in it);
-      three = c.if-shared-ne-PAIR.false;
-      part = c.part_of.ensures;
-      part' = c.part_of-in-loop-x.ensures;
-    } in it)) in
+pub same-requires : goal.same-requires
+same-requires t c =
+    let w = part-below (part-there c) in
     (omega (arith, c.decreases, w.0), (c.requires.heap, w.1))
 
-pub returns-then-not-agree : goal.returns-then-not-agree
-returns-then-not-agree t c =
-    part-differs ((let it : PartRead c.args.ws.now c.args.top c.args.a c.args.b c.loop-x.x c.loop-x.y c.kind_of-shared.result
-    c.left_shorter-left.result c.part_of.result c.part_of-in-loop-x.result = record {
-      node = (let it : Alike c.args.ws.now c.args.top c.args.a c.args.b c.loop-x.x c.loop-x.y c.kind_of-shared.result = record {
-        comparing = c.loop-x.invariant;
-        alike = sym c.alike-close.ensures ∙ not-false _ c.if-not-close.false-raw;
-        kind = c.kind_of-shared.ensures;
-      } in it);
-      three = c.if-shared-ne-PAIR.false;
-      part = c.part_of.ensures;
-      part' = c.part_of-in-loop-x.ensures;
-    } in it)) c.same-agree.ensures (not-true _ c.if-not-agree.true-raw)
+pub returns-then-not-same : goal.returns-then-not-same
+returns-then-not-same t c =
+    part-differs (part-there (goal.at.returns-then-not-same t c).After-part_of-in-Pair) c.same.ensures c.if-not-same.true
 
-pub part_of-x-requires : goal.part_of-x-requires
-part_of-x-requires t c =
-    omega (
-      arith,
-      compare_rooms ((let it : PartRead c.args.ws.now c.args.top c.args.a c.args.b c.loop-x.x c.loop-x.y c.kind_of-shared.result
-          c.left_shorter-left.result c.part_of.result c.part_of-in-loop-x.result = record {
-            node = (let it : Alike c.args.ws.now c.args.top c.args.a c.args.b c.loop-x.x c.loop-x.y c.kind_of-shared.result = record {
-              comparing = c.loop-x.invariant;
-              alike = sym c.alike-close.ensures ∙ not-false _ c.if-not-close.false-raw;
-              kind = c.kind_of-shared.ensures;
-            } in it);
-            three = c.if-shared-ne-PAIR.false;
-            part = c.part_of.ensures;
-            part' = c.part_of-in-loop-x.ensures;
-          } in it)).node.comparing,
-    )
+pub loop-x-smaller-in-Pair : goal.loop-x-smaller-in-Pair
+loop-x-smaller-in-Pair t c =
+    (compare_other (part-there (goal.at.loop-x-smaller-in-Pair t c).After-part_of-in-Pair) c.same.ensures c.if-not-same.false
+    c.part_of-x.ensures c.part_of-y.ensures).1
 
-pub part_of-y-requires : goal.part_of-y-requires
-part_of-y-requires t c =
-    omega (
-      arith,
-      compare_rooms ((let it : PartRead c.args.ws.now c.args.top c.args.a c.args.b c.loop-x.x c.loop-x.y c.kind_of-shared.result
-          c.left_shorter-left.result c.part_of.result c.part_of-in-loop-x.result = record {
-            node = (let it : Alike c.args.ws.now c.args.top c.args.a c.args.b c.loop-x.x c.loop-x.y c.kind_of-shared.result = record {
-              comparing = c.loop-x.invariant;
-              alike = sym c.alike-close.ensures ∙ not-false _ c.if-not-close.false-raw;
-              kind = c.kind_of-shared.ensures;
-            } in it);
-            three = c.if-shared-ne-PAIR.false;
-            part = c.part_of.ensures;
-            part' = c.part_of-in-loop-x.ensures;
-          } in it)).node.comparing,
-    )
-
-pub loop-x-smaller : goal.loop-x-smaller
-loop-x-smaller t c =
-    (compare_other ((let it : PartRead c.args.ws.now c.args.top c.args.a c.args.b c.loop-x.x c.loop-x.y c.kind_of-shared.result
-    c.left_shorter-left.result c.part_of.result c.part_of-in-loop-x.result = record {
-      node = (let it : Alike c.args.ws.now c.args.top c.args.a c.args.b c.loop-x.x c.loop-x.y c.kind_of-shared.result = record {
-        comparing = c.loop-x.invariant;
-        alike = sym c.alike-close.ensures ∙ not-false _ c.if-not-close.false-raw;
-        kind = c.kind_of-shared.ensures;
-      } in it);
-      three = c.if-shared-ne-PAIR.false;
-      part = c.part_of.ensures;
-      part' = c.part_of-in-loop-x.ensures;
-    } in it)) c.same-agree.ensures (not-false _ c.if-not-agree.false-raw) c.part_of-x.ensures c.part_of-y.ensures).1
+pub loop-x-preserved-in-Pair : goal.loop-x-preserved-in-Pair
+loop-x-preserved-in-Pair t c =
+    (compare_other (part-there (goal.at.loop-x-preserved-in-Pair t c).After-part_of-in-Pair) c.same.ensures c.if-not-same.false
+    c.part_of-x.ensures c.part_of-y.ensures).0
 
 pub loop-x-preserved : goal.loop-x-preserved
 loop-x-preserved t c =
-    (compare_other ((let it : PartRead c.args.ws.now c.args.top c.args.a c.args.b c.loop-x.x c.loop-x.y c.kind_of-shared.result
-    c.left_shorter-left.result c.part_of.result c.part_of-in-loop-x.result = record {
-      node = (let it : Alike c.args.ws.now c.args.top c.args.a c.args.b c.loop-x.x c.loop-x.y c.kind_of-shared.result = record {
-        comparing = c.loop-x.invariant;
-        alike = sym c.alike-close.ensures ∙ not-false _ c.if-not-close.false-raw;
-        kind = c.kind_of-shared.ensures;
-      } in it);
-      three = c.if-shared-ne-PAIR.false;
-      part = c.part_of.ensures;
-      part' = c.part_of-in-loop-x.ensures;
-    } in it)) c.same-agree.ensures (not-false _ c.if-not-agree.false-raw) c.part_of-x.ensures c.part_of-y.ensures).0
+    (compare_one (alike-there (goal.at.loop-x-preserved t c).After-kind_of) (single_of c.in-Inl.is) c.left_of-x.ensures c.left_of-y.ensures).0
 
 pub returns : goal.returns
 returns t c =

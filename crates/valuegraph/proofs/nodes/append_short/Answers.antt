@@ -1,7 +1,7 @@
 use native.Mathlib.Omega.{arith}
 use Rattle.rules.specs.Limits.{max_value_bytes}
 use Rattle.valuegraph.proofs.Making.{fits_true}
-use Rattle.valuegraph.proofs.Making.{made-new, made-old}
+use Rattle.valuegraph.proofs.Making.{made-old}
 use Rattle.valuegraph.proofs.nodes.append_short.Goals as goal
 
 pub returns-then-len-gt-MAX_VALUE_BYTES : goal.returns-then-len-gt-MAX_VALUE_BYTES
@@ -9,17 +9,7 @@ unfolding max_value_bytes
 returns-then-len-gt-MAX_VALUE_BYTES c =
     made-old _ _ _ (omega (arith, c.requires.len))
 
-pub append-requires-clause-node_ready : goal.append-requires-clause-node_ready
-unfolding max_value_bytes
-append-requires-clause-node_ready c =
-    c.requires
-
 pub append-requires-clause-right_value : goal.append-requires-clause-right_value
 unfolding max_value_bytes
 append-requires-clause-right_value c =
     fits_true _ (omega (arith, c.requires.len))
-
-pub returns : goal.returns
-unfolding max_value_bytes
-returns c =
-    made-new c.append.ensures (omega (arith, c.requires.len))

@@ -1,8 +1,7 @@
+use Prim.Native.Nat.{◌-◌}
+use lib.ListN.{length}
 use Rattle.valuegraph.specs.Loads.{LoadedFrom}
 use Rattle.valuegraph.proofs.nodes.load.Given as goal
 
-abbrev pub invariant-loop-i : goal.invariant-loop-i
-invariant-loop-i l = LoadedFrom l.initial.ws l.ws l.top l.s l.i l.free
-
-abbrev pub decreases-loop-i : goal.decreases-loop-i
-decreases-loop-i l = l.i
+abbrev pub invariant-loop-byte : goal.invariant-loop-byte
+invariant-loop-byte l = LoadedFrom l.initial.ws l.ws l.top l.s (length l.s - length l.yielded) l.free

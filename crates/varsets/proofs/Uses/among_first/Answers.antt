@@ -1,11 +1,6 @@
-use native.Mathlib.Omega.{arith}
-use Rattle.varsets.proofs.Sets.{power_some, holds-below}
+use Rattle.varsets.proofs.Sets.{holds-below}
 use Rattle.varsets.proofs.Uses.among_first.Goals as goal
-
-pub overflow_sub-result : goal.overflow_sub-result
-overflow_sub-result c =
-    power_some c.args.n (omega arith)
 
 pub returns : goal.returns
 returns c =
-    holds-below c.args.self c.args.n (omega arith)
+    holds-below c.args.self c.args.n c.first.ensures

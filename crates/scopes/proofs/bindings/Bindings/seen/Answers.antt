@@ -14,14 +14,6 @@ unfolding unknown
 returns-then-self-number c =
     sym (seen-newer c.args.ws.now c.args.self c.args.number (omega arith))
 
-pub known-requires-clause-heap : goal.known-requires-clause-heap
-known-requires-clause-heap c =
-    c.requires.graph
-
-pub known-requires-clause-slot : goal.known-requires-clause-slot
-known-requires-clause-slot c =
-    c.requires.slot
-
 pub returns : goal.returns
 unfolding unknown
 returns c =

@@ -1,5 +1,0 @@
-use Rattle.typing.proofs.leaves.offset.Goals as goal
-
-pub returns : goal.returns
-returns c =
-    cc
