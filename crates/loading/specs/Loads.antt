@@ -1,5 +1,5 @@
 -- What loading a program into arrays of its own answers, against calls/specs/Load.
-use Rattle.std.specs.Prelude.{ℕ, ◌≡◌, List, take, Result}
+use Rattle.std.specs.Prelude.{ℕ, ◌≡◌, List, take, Result, IfOk}
 use package.Rattle.rules.specs.Term.{Program}
 use package.Rattle.calls.specs.Load.{load}
 use package.Rattle.answers.specs.declared.Refusal.{Refusal}
@@ -21,3 +21,5 @@ program_loaded l = program_in l.program.now (take l.counts.types l.types) (take 
 pub record Loads (r : Result Loaded Refusal) (xs : List ℕ) : Type 0 where
   pub answer : load xs ≡ loaded_of r program_loaded
   pub later : Later (load xs)
+  -- what is loaded is of these bytes
+  pub bytes : IfOk r (λ l. l.program.now ≡ xs)
