@@ -11,7 +11,7 @@ cd "${1:-$(dirname "$0")/..}"
 open_crates="engine readers exports replay batch"
 
 sources=()
-while IFS= read -r file; do sources+=("$file"); done < <(find crates -path '*/src/*.rt' | LC_ALL=C sort)
+while IFS= read -r file; do sources+=("$file"); done < <(find crates -name out -prune -o -path '*/src/*.rt' -print | LC_ALL=C sort)
 
 awk -v open_crates="$open_crates" '
 BEGIN {
