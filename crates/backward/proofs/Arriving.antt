@@ -20,10 +20,10 @@ use package.Rattle.valuegraph.specs.Nodes.{Made, value_at, kind_at as nodeKind}
 use package.Rattle.scopes.specs.Slots.{unknown, found, Slot, Machine, Scope, machine_of, slots_of, scope_in, Moved}
 use package.Rattle.scopes.specs.Cells.{Linked}
 use Rattle.std.specs.Prelude.{Some}
-use package.Rattle.scopes.specs.Bindings.{slots_from, state_of, said, seen, Meets, Meetable}
+use package.Rattle.scopes.specs.Bindings.{slots_from, state_of, said, seen, handed, Meets, Meetable}
 use package.Rattle.scopes.specs.declared.bindings.Bindings.{Bindings}
 use package.Rattle.scopes.proofs.Views.{view_at, binds_view, compares_view, tells_later, tells-bound, said-told, told-seen, by_slot}
-use package.Rattle.backward.specs.Ready.{Prepared, Gone, GoneFrom, Variable, UnitMet, Stays, run_at, step_at, PreparedIn, StepsBack}
+use package.Rattle.backward.specs.Ready.{Prepared, Gone, GoneFrom, handed_back, Variable, UnitMet, Stays, run_at, step_at, PreparedIn, StepsBack}
 use package.Rattle.backward.specs.Outcomes.{Refused, outcome_of, scope_view, too_long}
 use package.Rattle.backward.proofs.Runs.{small_top}
 use package.Rattle.backward.proofs.Stops.{is_done, is_stopped}
@@ -36,8 +36,6 @@ use Rattle.std.specs.Prelude.{Ok, Err}
 use package.Rattle.backward.specs.Outcomes.{Out}
 use Rattle.backward.specs.declared.outcomes.Refusal.{Refusal}
 use Rattle.backward.specs.declared.outcomes.Refusal.TheVariants.{Fuel, Height, NoInput, Stuck}
-use Rattle.std.specs.Bool.{then_some}
-use Rattle.std.specs.Result.{result_ok}
 
 ----------------------------------------------------------------
 -- A unit of fuel is taken
@@ -145,7 +143,7 @@ module _ {code heap slots : List ℕ} {m : Machine} {b : Bindings} {sc : Scope} 
 
     -- it was bound before
     pub compared_gone : {r : Out} {old : ℕ} → (get_or slots (sc.base + first_in code t) 0 ≡ unknown → ⊥)
-        → found heap (get_or slots (sc.base + first_in code t) 0) ≡ Some old → result_ok r ≡ then_some (same (value_at heap old) (value_at heap node)) b
+        → found heap (get_or slots (sc.base + first_in code t) 0) ≡ Some old → handed_back b r ≡ handed (same (value_at heap old) (value_at heap node)) b
         → ((why : Refusal) → r ≡ Err why → why ≡ NoInput t) → Stepped heap slots m r
     compared_gone {r} {old} known f agrees differs = go (same (value_at heap old) (value_at heap node)) refl r refl agrees
       where
@@ -156,7 +154,7 @@ module _ {code heap slots : List ℕ} {m : Machine} {b : Bindings} {sc : Scope} 
             (meet t (state_of heap (scope_view slots sc)) (first_in code t) (value_at heap node) m.fuel) → Stepped heap slots m out
         gone out as_was S = record { ran = var_done P.ready low kind refl S; below = λ j l. refl; tells = λ bs e. rw (as_was bs e) P.tells }
 
-        go : (agree : Bool) → agree ≡ same (value_at heap old) (value_at heap node) → (out : Out) → out ≡ r → result_ok out ≡ then_some agree b → Stepped heap slots m r
+        go : (agree : Bool) → agree ≡ same (value_at heap old) (value_at heap node) → (out : Out) → out ≡ r → handed_back b out ≡ handed agree b → Stepped heap slots m r
         go true e (Ok bs) q s =
             let here : bs ≡ b = cc in
             rw (← q) (gone (Ok bs) (λ bs' z. let p : bs' ≡ bs = cc in p ∙ here)
@@ -169,7 +167,7 @@ module _ {code heap slots : List ℕ} {m : Machine} {b : Bindings} {sc : Scope} 
 
     -- it was not
     pub assigned_gone : {heap' slots' : List ℕ} {m' : Machine} {r : Out} → get_or slots (sc.base + first_in code t) 0 ≡ unknown
-        → result_ok r ≡ Some (record { head = m.top })
+        → handed_back b r ≡ Ok (record { head = m.top })
         → Linked heap heap' m.top node (first_in code t) b.head → slots' ≡ set slots (sc.base + first_in code t) (unknown + m.top)
         → m' ≡ record { top = m.top + 1; fuel = m.fuel } → Stepped heap' slots' m' r
     assigned_gone {heap'} {slots'} {m'} {r} none-known e C s em = go r e
@@ -180,7 +178,7 @@ module _ {code heap slots : List ℕ} {m : Machine} {b : Bindings} {sc : Scope} 
         lengths : length slots ≡ length slots'
         lengths = rw s (sym (length-set slots (sc.base + first_in code t) (unknown + m.top)))
 
-        go : (r : Out) → result_ok r ≡ Some (record { head = m.top }) → Stepped heap' slots' m' r
+        go : (r : Out) → handed_back b r ≡ Ok (record { head = m.top }) → Stepped heap' slots' m' r
         go (Ok bs) e = rw em (record {
           ran = var-bound P.ready low kind (variable-bound slots slots' m P.ready.machine.graph C met P.ready.binds.bound small in_scope low
               lengths t refl refl);

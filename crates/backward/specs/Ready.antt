@@ -2,7 +2,6 @@
 -- scope's slots, which are an index of the binding state and of which the first `q` variables are the ancilla parameters. The last two sections tie views to the
 -- slots and the state that the code has, and both to the numbers that it is lent. Laws: proofs/Runs; proofs/Frames of the last sections.
 use Rattle.std.specs.Prelude.{ℕ, ◌+◌, ◌*◌, ◌-◌, ◌≤◌, ◌<◌, ◌≡◌, Bool, true, false, List, ◌∷◌, length, get_or, set, Result, Ok, Err}
-use Rattle.std.specs.Result.{result_ok}
 use Rattle.std.proofs.Math.Option.{none}
 use package.Rattle.rules.specs.Limits.{fits, max_variables}
 use package.Rattle.rules.specs.Val.{Val, pair}
@@ -284,9 +283,14 @@ EntersPair code heap heap' st st' scope t left right room n = Enters code heap h
 ----------------------------------------------------------------
 -- Terms without parts
 
+-- What meeting a variable handed back, by what became of the run: where it is stopped, the state that was asked of.
+abbrev pub handed_back : Bindings → Out → Result Bindings Bindings
+handed_back b (Ok bs) = Ok bs
+handed_back b (Err why) = Err b
+
 -- Variable `i` was met at term `t`: 16 where the values differ.
 pub record Variable (heap heap' st st' : List ℕ) (b : Bindings) (sc : Scope) (i node t : ℕ) (r : Out) : Type 0 where
-  pub met : MeetsAt heap heap' st st' b sc i node (result_ok r)
+  pub met : MeetsAt heap heap' st st' b sc i node (handed_back b r)
   pub differs : (why : Refusal) → r ≡ Err why → why ≡ NoInput t
 
 -- The unit was met with a value.

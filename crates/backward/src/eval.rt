@@ -153,7 +153,9 @@ fn unwrap(
 {
     let found = nodes::kind_of(ws, node);
     if found != kind {
-        return Err(outcomes::differ(kind, found, t));
+        let made = u8::from(kind);
+        let has = u8::from(found);
+        return Err(outcomes::differ(made, has, t));
     }
     let part = rows::second_of(code, t);
     let x = nodes::left_of(ws, node);

@@ -145,13 +145,18 @@ pub(crate) fn entering(
     Err(long(state::fuel(st), t, room))
 }
 
+const INL: u8 = Kind::Inl as u8;
+
+const INR: u8 = Kind::Inr as u8;
+
 // Term t makes values of one kind, and its value is of another: inl against inr has no input (16).
+// Kept: kinds by their bytes, since it answers of every byte.
 #[tactic(auto, unfolding(crate::specs::Outcomes::mismatch, crate::specs::Outcomes::against))]
-pub fn differ(kind: Kind, found: Kind, t: u16) -> Refusal
-    ensures { result ≡ mismatch (kind_number kind) (kind_number found) t }
+pub fn differ(kind: u8, found: u8, t: u16) -> Refusal
+    ensures { result ≡ mismatch kind found t }
 {
     match (kind, found) {
-        (Kind::Inl, Kind::Inr) | (Kind::Inr, Kind::Inl) => Refusal::NoInput(t),
+        (INL, INR) | (INR, INL) => Refusal::NoInput(t),
         _ => Refusal::Stuck,
     }
 }
@@ -172,7 +177,8 @@ pub fn variable(
     ensures { Variable ws.old ws.new st.old st.new b (scope_in scope) (first_in code.now t) node t result }
 {
     let i = rows::first_of(code, t);
-    b.meet(ws, st, scope, i, node).ok_or(Refusal::NoInput(t))
+    b.meet(ws, st, scope, i, node)
+        .map_err(|_| Refusal::NoInput(t))
 }
 
 // The unit binds nothing.

@@ -4,7 +4,7 @@ use native.Mathlib.Omega.{arith}
 use mathlib.Core.Path.{◌≡◌, sym, ap, ap₂, subst, ◌∙◌}
 use mathlib.Core.List.{List}
 use lib.ListN.{get_or, set}
-use Rattle.std.specs.Prelude.{Option, Some, None}
+use Rattle.std.specs.Prelude.{Option, Some, None, Ok}
 use package.Rattle.scopes.specs.Slots.{unknown, Scope, machine_of, slots_of, node_or, Written}
 use package.Rattle.scopes.specs.Bindings.{said, seen, Looks, Adds, EntersBound, Meetable, MeetsBy, MeetsAt}
 use package.Rattle.scopes.proofs.Views.{seen_low}
@@ -43,10 +43,10 @@ module _ (heap st : List ℕ) (b : Bindings) (sc : Scope) (i node : ℕ) (M : Me
   said-there z = sym z ∙ q ∙ ap (seen heap b) (number st eb e n) ∙ M.reads
 
   pub met-bound : {heap' st₁ st' : List ℕ} {top : ℕ} → top ≡ (machine_of st).top → f ≡ None → {r : Bindings} → Adds heap heap' st st₁ b node i r
-      → Written st₁ st' (base + v) (unknown + top) → MeetsAt heap heap' st st' b sc i node (Some r)
+      → Written st₁ st' (base + v) (unknown + top) → MeetsAt heap heap' st st' b sc i node (Ok r)
   met-bound {heap'} {st₁} {st'} {top} t z {r} A W = record {
-    met = subst (MeetsBy heap heap' st st' b sc.base i node (Some r)) (said-there z) (record {
-      agrees = ap (λ h. Some (record { head = h })) A.head;
+    met = subst (MeetsBy heap heap' st st' b sc.base i node (Ok r)) (said-there z) (record {
+      agrees = ap (λ h. Ok (record { head = h })) A.head;
       linked = A.linked;
       lengths = W.lengths ∙ A.moved.lengths;
       slots = W.slots ∙ ap (λ s. set s (base + v) (unknown + top)) A.moved.slots ∙ rw (eb, e, t);

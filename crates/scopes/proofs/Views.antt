@@ -10,7 +10,7 @@ use lib.ListN.{length, get_or, set, length-set}
 use lib.Seq.{get_or-set_same, get_or-set_other, ext_get_or}
 use lib.Dec.{eqb}
 use borrow.Author.Tests.{eqb-true, eqb-false, lt-ltb, le-ltb}
-use Rattle.std.specs.Prelude.{Option, Some, None}
+use Rattle.std.specs.Prelude.{Option, Some, None, Result}
 use package.Rattle.rules.specs.Limits.{max_variables}
 use package.Rattle.rules.specs.Val.{same}
 use package.Rattle.valuegraph.specs.Nodes.{left_at, value_at, Agree, Celled}
@@ -197,7 +197,7 @@ told-seen {heap} {slots} {b} {base} {q} T small known i l = seen-found heap b _ 
     go (no m) = omega (arith, T.index i (omega arith) l, cell-le heap i b.head)
 
 -- by what the slot says
-pub by_slot : {heap heap' st st' : List ℕ} {b : Bindings} (sc : Scope) {i node top : ℕ} {r : Option Bindings} → MeetsAt heap heap' st st' b sc i node r
+pub by_slot : {heap heap' st st' : List ℕ} {b : Bindings} (sc : Scope) {i node top : ℕ} {r : Result Bindings Bindings} → MeetsAt heap heap' st st' b sc i node r
     → said heap (slots_of st) b sc i ≡ found heap (get_or (slots_of st) (sc.base + i) 0) → Slot heap (get_or (slots_of st) (sc.base + i) 0) top → top ≤ unknown
     → {P : Type 0} → (get_or (slots_of st) (sc.base + i) 0 ≡ unknown → Assigns heap heap' st st' b sc.base i node r → P)
     → ((old : ℕ) → (get_or (slots_of st) (sc.base + i) 0 ≡ unknown → ⊥) → found heap (get_or (slots_of st) (sc.base + i) 0) ≡ Some old

@@ -1,8 +1,7 @@
 -- The binding state by value (section 2, backward) is the number of its newest cell (specs/Cells). A view is what the slots of a scope say: as
 -- many numbers as there may be variables, of which the first `len` are of variables in scope. Slots are an index, by which the code finds a
 -- variable's cell; the state decides whether the cell counts. Laws: proofs/Bound over views, proofs/Views from the code to views.
-use Rattle.std.specs.Prelude.{ℕ, zero, suc, ◌+◌, ◌-◌, ◌≤◌, ◌<◌, ◌≡◌, Bool, true, false, List, [], ◌∷◌, length, get_or, set, ltb, Option, Some, None}
-use Rattle.std.specs.Bool.{then_some}
+use Rattle.std.specs.Prelude.{ℕ, zero, suc, ◌+◌, ◌-◌, ◌≤◌, ◌<◌, ◌≡◌, Bool, true, false, List, [], ◌∷◌, length, get_or, set, ltb, Option, Some, None, Result, Ok, Err}
 use package.Rattle.rules.specs.Limits.{max_variables}
 use package.Rattle.rules.specs.Val.{same}
 use package.Rattle.rules.specs.Machine.{State}
@@ -121,24 +120,29 @@ pub record Meetable (heap st : List ℕ) (b : Bindings) (sc : Scope) (i : ℕ) :
   pub slot : Slot heap (get_or (slots_of st) (sc.base + i) 0) (machine_of st).top
   pub reads : seen heap b (get_or (slots_of st) (sc.base + i) 0) ≡ said heap (slots_of st) b sc i
 
--- it is compared with what it is bound to, and all is as it was: the state, or none where the values differ
-pub record Compared (heap heap' st st' : List ℕ) (b : Bindings) (old node : ℕ) (r : Option Bindings) : Type 0 where
-  pub agrees : r ≡ then_some (same (value_at heap old) (value_at heap node)) b
+-- The state that was asked of, handed back: Ok where the values agree, Err where they differ.
+abbrev pub handed : Bool → Bindings → Result Bindings Bindings
+handed true b = Ok b
+handed false b = Err b
+
+-- it is compared with what it is bound to, and all is as it was, the state too
+pub record Compared (heap heap' st st' : List ℕ) (b : Bindings) (old node : ℕ) (r : Result Bindings Bindings) : Type 0 where
+  pub agrees : r ≡ handed (same (value_at heap old) (value_at heap node)) b
   pub heap_same : heap' ≡ heap
   pub numbers_same : st' ≡ st
 
 -- it is bound, by a new cell, which its slot names
-pub record Assigns (heap heap' st st' : List ℕ) (b : Bindings) (base i node : ℕ) (r : Option Bindings) : Type 0 where
-  pub agrees : r ≡ Some (record { head = (machine_of st).top })
+pub record Assigns (heap heap' st st' : List ℕ) (b : Bindings) (base i node : ℕ) (r : Result Bindings Bindings) : Type 0 where
+  pub agrees : r ≡ Ok (record { head = (machine_of st).top })
   pub linked : Linked heap heap' (machine_of st).top node i b.head
   pub lengths : length st' ≡ length st
   pub slots : slots_of st' ≡ set (slots_of st) (base + i) (unknown + (machine_of st).top)
   pub machine : machine_of st' ≡ record { top = (machine_of st).top + 1; fuel = (machine_of st).fuel }
 
 -- by what the state says of the variable
-abbrev pub MeetsBy : (heap heap' st st' : List ℕ) → Bindings → ℕ → ℕ → ℕ → Option Bindings → Option ℕ → Type 0
+abbrev pub MeetsBy : (heap heap' st st' : List ℕ) → Bindings → ℕ → ℕ → ℕ → Result Bindings Bindings → Option ℕ → Type 0
 MeetsBy heap heap' st st' b base i node r (Some old) = Compared heap heap' st st' b old node r
 MeetsBy heap heap' st st' b base i node r None = Assigns heap heap' st st' b base i node r
 
-pub record MeetsAt (heap heap' st st' : List ℕ) (b : Bindings) (sc : Scope) (i node : ℕ) (r : Option Bindings) : Type 0 where
+pub record MeetsAt (heap heap' st st' : List ℕ) (b : Bindings) (sc : Scope) (i node : ℕ) (r : Result Bindings Bindings) : Type 0 where
   pub met : MeetsBy heap heap' st st' b sc.base i node r (said heap (slots_of st) b sc i)

@@ -48,7 +48,8 @@ impl Bindings {
         Bindings { head: top }
     }
 
-    // Variable i of a scope is met with a node's value: it is bound, or compared, as the state says. The state then, none if the values differ.
+    // Variable i of a scope is met with a node's value: it is bound, or compared, as the state says. The state is handed back: Err if the
+    // values differ.
     pub fn meet(
         self,
         ws: &mut [u8],
@@ -56,7 +57,7 @@ impl Bindings {
         scope: u64,
         i: u16,
         node: u32,
-    ) -> Option<Bindings>
+    ) -> Result<Bindings, Bindings>
         requires meetable { Meetable ws.old st.old self (scope_in scope) i }
         requires node_bound { node < (machine_of st.old).top }
         ensures { MeetsAt ws.old ws.new st.old st.new self (scope_in scope) i node result }
@@ -64,11 +65,17 @@ impl Bindings {
         let top = state::top(st);
         let at = state::base_in(scope) + usize::from(i);
         match self.seen(ws, top, slots::at(st, at)) {
-            Some(old) => valuegraph::nodes::same(ws, top, old, node).then_some(self),
+            Some(old) => {
+                if valuegraph::nodes::same(ws, top, old, node) {
+                    Ok(self)
+                } else {
+                    Err(self)
+                }
+            }
             None => {
                 let state = self.with_cell(ws, st, node, i);
                 slots::bind(st, at, UNKNOWN + top);
-                Some(state)
+                Ok(state)
             }
         }
     }

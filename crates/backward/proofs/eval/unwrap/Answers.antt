@@ -1,6 +1,7 @@
 use Rattle.std.specs.Prelude.{Err}
 use native.Mathlib.Omega.{arith}
-use mathlib.Core.Path.{refl}
+use mathlib.Core.Path.{refl, ap₂, ◌∙◌}
+use Rattle.backward.specs.Outcomes.{mismatch}
 use Rattle.backward.proofs.Frames.{row-there}
 use Rattle.backward.proofs.Steps.{node-there}
 use Rattle.backward.proofs.Stepping.{node_kind, wrapped-node, wrapped-prepared, wrapped-gone, wrapped-differs}
@@ -46,4 +47,4 @@ returns-then-ne c =
     leads-over (Err _) refl refl
     (wrapped-differs c.requires.prepared_in.prepared c.requires.node_bound.0 c.requires.node_bound.1
     (node_kind c.requires.prepared_in c.requires.node_bound.0 c.kind_of-found.ensures) (kind_differs c.kind_of-found.result c.args.kind c.ne.ensures c.if-ne.true)
-    c.differ.ensures)
+    (c.differ.ensures ∙ ap₂ (λ made has. mismatch made has c.args.t) c.from-made.ensures c.from-has.ensures))
