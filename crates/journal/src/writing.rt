@@ -71,7 +71,7 @@ fn set_held(journal: &mut [u8], from: usize, to: usize, held: &[u8])
     ensures { journal.new ≡ pasted journal.old 0 (field held_tag held.now ++ take (to - from) (drop from journal.old)) }
 {
     journal.copy_within(from..to, FIELD_HEAD + held.len());
-    put_held(journal, held);
+    put_held(journal, held); // only now: it may lie over what was moved
 }
 
 // A conversion's field.

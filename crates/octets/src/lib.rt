@@ -74,11 +74,14 @@ pub fn clear(s: &mut [u8])
 }
 
 // The bytes of src, from index `at` of dst on.
+// Kept: a loop by index. With `copy_from_slice` an archive for C needs memmove from outside; the two slices never overlap.
 pub fn copy(dst: &mut [u8], at: usize, src: &[u8])
     requires { at + length src.now ≤ length dst.old }
     ensures { dst.new ≡ pasted dst.old at src.now }
 {
-    dst[at..at + src.len()].copy_from_slice(src);
+    for i in 0..src.len() {
+        dst[at + i] = src[i];
+    }
 }
 
 // Are the bytes the same?
