@@ -13,7 +13,7 @@ ghost use Rattle.types.specs.Basis.{TraceableBy, FiguredBy};
 use crate::basis::Basis;
 use crate::codes::Code;
 use crate::figures::Figures;
-use crate::numbering::Keys;
+use crate::numbering::{Keys, SLOT_COUNT};
 use crate::{figures, hints, numbering};
 use program::kinds::{TermKind, TypeKind};
 use program::views;
@@ -86,7 +86,7 @@ impl Search<'_> {
     fn trace(
         &self,
         ws: &mut [u8],
-        met: &mut [Option<u16>; MAX_TYPES],
+        met: &mut [Option<u8>; MAX_TYPES],
         part: u16,
         j: u16,
         free: u16,
@@ -100,7 +100,8 @@ impl Search<'_> {
         if kept.free_of(i) != free {
             return Code::Entry(i);
         }
-        if met[usize::from(i)] == Some(j) {
+        let stood = Some(j as u8);
+        if met[usize::from(i)] == stood {
             let basis = Basis {
                 program: self.program,
                 types: self.types,
@@ -109,7 +110,7 @@ impl Search<'_> {
             };
             return basis.settled(Code::Under(i, j));
         }
-        met[usize::from(i)] = Some(j);
+        met[usize::from(i)] = stood;
         let at = usize::from(self.types[usize::from(i)]);
         let kind = views::type_kind(self.program, at);
         match kind {
@@ -133,7 +134,7 @@ impl Search<'_> {
         &self,
         ws: &mut [u8],
         tried: &mut [bool; MAX_TYPES],
-        met: &mut [Option<u16>; MAX_TYPES],
+        met: &mut [Option<u8>; MAX_TYPES],
         at: usize,
     )
         requires traceable { TraceableBy self.now ws.old }
@@ -179,7 +180,11 @@ pub fn prepare(p: &[u8], types: &[u16], terms: &[u16], ws: &mut [u8])
     requires by_index { (t : ℕ) → t < length terms.now → TermField p.now (get_or terms.now t 0) }
     ensures { Figured (map (type_at p.now) types.now) ws.new (length types.now) }
 {
-    let keys = numbering::number_types(p, types, ws);
+    let mut keys = Keys {
+        keys: [0; MAX_TYPES],
+        index: [None; SLOT_COUNT],
+    };
+    numbering::number_types(p, types, ws, &mut keys);
     let search = Search {
         program: p,
         types,

@@ -20,13 +20,14 @@ use rules::MAX_TYPES;
 // A prime, some four times as many as there can be entries.
 const SLOTS: u32 = 1021;
 
-const SLOT_COUNT: usize = SLOTS as usize;
+pub const SLOT_COUNT: usize = SLOTS as usize;
 
-// The keys of the entries that were entered, in order; and by the slot that a key falls on, the newest entry whose key does.
+// The keys of the entries that were entered, in order; and by the slot that a key falls on, the newest entry whose key does. Its number is below
+// 256, so that a byte holds it: each check of a program clears the whole table, which is of half the length so.
 #[derive(Drop)]
 pub struct Keys {
     pub keys: [u32; MAX_TYPES],
-    pub index: [Option<u16>; SLOT_COUNT],
+    pub index: [Option<u8>; SLOT_COUNT],
 }
 
 #[derive(Clone, Copy)]
@@ -143,6 +144,24 @@ impl Figures<'_> {
     }
 }
 
+// Which of the first `n` keys is this one. `index` has the newest entry whose key falls on a slot, in numbers of any width.
+pub fn find<I: Copy + Into<usize>>(
+    keys: &[u32],
+    index: &[Option<I>],
+    n: usize,
+    key: u32,
+) -> Option<usize>
+    requires n_in_bounds { (n ≤ length keys.now) × (slots ≤ length index.now) }
+    requires by_index { (k : ℕ) → k < n → IsSome (get_or index.now (slot_of (get_or keys.now k 0)) None) }
+    ensures { Finds keys.now n key result }
+{
+    let newest: usize = index[slot(key)]?.into();
+    if newest < n && keys[newest] == key {
+        return Some(newest);
+    }
+    keys[..n].iter().position(|k| *k == key)
+}
+
 impl Keys {
     // The entry of one of the first `n` keys that is this one.
     pub fn find(&self, n: usize, key: u32) -> Option<usize>
@@ -150,11 +169,7 @@ impl Keys {
         requires by_index { (k : ℕ) → k < n → IsSome (get_or self.now.index (slot_of (get_or self.now.keys k 0)) None) }
         ensures { Finds self.now.keys n key result }
     {
-        let newest = usize::from(self.index[slot(key)]?);
-        if newest < n && self.keys[newest] == key {
-            return Some(newest);
-        }
-        self.keys[..n].iter().position(|k| *k == key)
+        find(&self.keys, &self.index, n, key)
     }
 
     // The key of entry `i`.
@@ -164,7 +179,7 @@ impl Keys {
         ensures index { self.new.index ≡ slice_set self.old.index (slot_of key) (Some i) }
     {
         self.keys[usize::from(i)] = key;
-        self.index[slot(key)] = Some(i);
+        self.index[slot(key)] = Some(i as u8);
     }
 }
 
@@ -183,17 +198,12 @@ fn enter(p: &[u8], types: &[u16], ws: &mut [u8], keys: &mut Keys, i: u16)
     keys.put(i, f.key);
 }
 
-// The figures of the type entries; answers their keys.
-pub fn number_types(p: &[u8], types: &[u16], ws: &mut [u8]) -> Keys
+// The figures of the type entries, and their keys, in tables that are lent: handed back, they would be copied.
+pub fn number_types(p: &[u8], types: &[u16], ws: &mut [u8], keys: &mut Keys)
     requires readable { Readable p.now types.now × (typing_bytes ≤ length ws.old) }
-    ensures { Numbered p.now types.now ws.new result.keys result.index (length types.now) }
+    ensures { Numbered p.now types.now ws.new keys.new.keys keys.new.index (length types.now) }
 {
-    let mut keys = Keys {
-        keys: [0; MAX_TYPES],
-        index: [None; SLOT_COUNT],
-    };
     for i in 0..types.len() {
-        enter(p, types, ws, &mut keys, i as u16);
+        enter(p, types, ws, keys, i as u16);
     }
-    keys
 }
