@@ -1,6 +1,6 @@
 -- Laws of the rows of the program before those of the journal.
 use Prim.Native.Nat.{ℕ, ◌≤◌}
-use mathlib.Core.Path.{◌≡◌, refl, sym, ap, subst, ◌∙◌}
+use mathlib.Core.Path.{◌≡◌, refl, sym, ap, subst}
 use mathlib.Core.List.{List}
 use Rattle.std.specs.Prelude.{Result, Ok, Err}
 use package.Rattle.rules.specs.Term.{Program}
@@ -13,9 +13,9 @@ use package.Rattle.answers.specs.declared.Done.{Done}
 use package.Rattle.answers.specs.declared.Refusal.{Refusal}
 use package.Rattle.answers.specs.Answers.{number_of, place_of, refuses}
 use package.Rattle.answers.proofs.Answers.{later_number}
-use package.Rattle.loading.specs.declared.loaded.Loaded.{Loaded}
-use package.Rattle.loading.specs.Loads.{program_loaded, Loads}
-use package.Rattle.loading.proofs.Loading.{refused-number}
+use package.Rattle.loading.specs.declared.loaded.AcceptedProgram.{AcceptedProgram}
+use package.Rattle.loading.specs.Loads.{program_accepted, LoadsInto}
+use package.Rattle.loading.proofs.Rooms.{room_refused}
 use package.Rattle.requests.specs.Calls.{CheckMeans}
 use package.Rattle.conversions.specs.Turns.{OpenMeans, TurnMeans}
 use package.Rattle.conversions.proofs.Values.{turn-refused as left_alone}
@@ -53,11 +53,11 @@ module _ {xs : List ℕ} (x : Answer (List ℕ)) {j : List ℕ} where
 -- Convert and rollback
 
 module _ {xs : List ℕ} (turn : Program → Answer Turned) {j : List ℕ} where
-  pub turn-ready : {l : Loaded} → Loads (Ok l) xs → {P : Program} → P ≡ program_loaded l → {r : Result Done Refusal} {j' : List ℕ} → TurnMeans r (turn P) j j'
+  pub turn-ready : {a : AcceptedProgram} → LoadsInto (Ok a) xs → {r : Result Done Refusal} {j' : List ℕ} → TurnMeans r (turn (program_accepted a)) j j'
       → TurnMeans r (load xs >>= turn) j j'
   unfolding ◌>>=◌
-  turn-ready L e {r} {j'} T = subst (λ x. TurnMeans r x j j') (sym (via _ (L.answer ∙ ap accepted (sym e)) refl)) T
+  turn-ready L {r} {j'} T = subst (λ x. TurnMeans r x j j') (sym (via _ L.answer refl)) T
 
-  pub turn-refused : {why : Refusal} → Loads (Err why) xs → {r : Result Done Refusal} → r ≡ Err why → TurnMeans r (load xs >>= turn) j j
+  pub turn-refused : {why : Refusal} → LoadsInto (Err why) xs → {r : Result Done Refusal} → r ≡ Err why → TurnMeans r (load xs >>= turn) j j
   unfolding ◌>>=◌
-  turn-refused {why} L e = rw e (left_alone why j (ap (λ a. a >>= turn) L.answer) (refuses {n = number_of why} (refused-number L)))
+  turn-refused {why} L e = rw e (left_alone why j (ap (λ a. a >>= turn) L.answer) (refuses {n = number_of why} (room_refused L)))

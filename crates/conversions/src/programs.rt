@@ -7,6 +7,8 @@ ghost use Rattle.conversions.specs.Turns.{open_in, convert_in, rollback_in, Open
 
 use crate::{converting, opening, returning};
 use answers::{CheckAnswer, RunAnswer};
+use loading::room;
+use loading::room::Room;
 
 // Open: whether the program is accepted, then the record.
 pub fn open(program: &[u8], record: &[u8], workspace: &mut [u8], journal: &mut [u8]) -> CheckAnswer
@@ -29,15 +31,9 @@ pub fn convert(
     requires { workspace_for fuel ≤ length workspace.old }
     ensures { TurnMeans result (convert_in program.now fuel function ancillae.now journal.old) journal.old journal.new }
 {
-    let loaded = loading::load(program, workspace)?;
-    converting::convert(
-        loaded.accepted(),
-        function,
-        ancillae,
-        fuel,
-        workspace,
-        journal,
-    )
+    let mut room = Room::new();
+    let loaded = room::load_into(program, &mut room, workspace)?;
+    converting::convert(loaded, function, ancillae, fuel, workspace, journal)
 }
 
 // Rollback: the rows of the program, then those of the journal, the call and the run.
@@ -45,6 +41,7 @@ pub fn rollback(program: &[u8], fuel: u16, workspace: &mut [u8], journal: &mut [
     requires { workspace_for fuel ≤ length workspace.old }
     ensures { TurnMeans result (rollback_in program.now fuel journal.old) journal.old journal.new }
 {
-    let loaded = loading::load(program, workspace)?;
-    returning::rollback(loaded.accepted(), fuel, workspace, journal)
+    let mut room = Room::new();
+    let loaded = room::load_into(program, &mut room, workspace)?;
+    returning::rollback(loaded, fuel, workspace, journal)
 }

@@ -3,3 +3,5 @@
 pub mod Loading
 -- the tally of the counts, for each row
 pub mod Tallies
+-- what is loaded into room that is lent
+pub mod Rooms

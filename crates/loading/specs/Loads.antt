@@ -1,9 +1,10 @@
--- What loading a program into arrays of its own answers, against calls/specs/Load.
+-- What loading a program into arrays of its own answers, against calls/specs/Load; the same for room that is lent, and for the answer alone.
 use Rattle.std.specs.Prelude.{ℕ, ◌≡◌, List, take, Result, IfOk}
 use package.Rattle.rules.specs.Term.{Program}
+use package.Rattle.calls.specs.Answer.{accepted, ◌>>=◌}
 use package.Rattle.calls.specs.Load.{load}
 use package.Rattle.answers.specs.declared.Refusal.{Refusal}
-use package.Rattle.answers.specs.Answers.{Later}
+use package.Rattle.answers.specs.Answers.{check_answer, Later}
 use package.Rattle.program.specs.Programs.{program_in}
 use package.Rattle.loading.specs.Loading.{loaded_of}
 use package.Rattle.loading.specs.declared.loaded.AcceptedProgram.{AcceptedProgram}
@@ -23,3 +24,14 @@ pub record Loads (r : Result Loaded Refusal) (xs : List ℕ) : Type 0 where
   pub later : Later (load xs)
   -- what is loaded is of these bytes
   pub bytes : IfOk r (λ l. l.program.now ≡ xs)
+
+-- the same for room that is lent: what goes on is of these bytes
+pub record LoadsInto (r : Result AcceptedProgram Refusal) (xs : List ℕ) : Type 0 where
+  pub answer : load xs ≡ loaded_of r program_accepted
+  pub later : Later (load xs)
+  pub bytes : IfOk r (λ a. a.entries.program.now ≡ xs)
+
+-- whether the bytes `xs` are a program that is accepted
+pub record AcceptsMeans (r : Result (Unit {0}) Refusal) (xs : List ℕ) : Type 0 where
+  pub answer : check_answer r ≡ (load xs >>= λ P. accepted tt)
+  pub later : Later (check_answer r)

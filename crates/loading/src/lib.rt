@@ -11,13 +11,16 @@ ghost use Rattle.program.specs.Signatures.{unsigned, SignaturesAre};
 ghost use Rattle.types.specs.Layout.{typing_bytes};
 ghost use Rattle.typing.specs.Checked as types;
 ghost use Rattle.loading.specs.Loading.{Refuses, Examined, LoadMeans};
-ghost use Rattle.loading.specs.Loads.{Loads};
+ghost use Rattle.loading.specs.Loads.{Loads, AcceptsMeans};
 ghost use Rattle.loading.specs.Tally.{Untallied, TallyMeans};
 
 // the program that was loaded
 pub mod loaded;
+// room for one, which a caller lends
+pub mod room;
 
 use crate::loaded::Loaded;
+use crate::room::Room;
 use answers::Refusal;
 use entries::measures::Tally;
 use entries::testing;
@@ -184,4 +187,16 @@ pub fn load<'a>(program: &'a [u8], workspace: &mut [u8]) -> Result<Loaded<'a>, R
         functions,
         table,
     })
+}
+
+// All three rows, for callers that ask only whether the program is accepted: no array is handed back.
+pub fn accepts(program: &[u8], workspace: &mut [u8]) -> Result<(), Refusal>
+    requires { typing_bytes ≤ length workspace.old }
+    ensures { AcceptsMeans result program.now }
+{
+    let mut room = Room::new();
+    match room::load_into(program, &mut room, workspace) {
+        Ok(_) => Ok(()),
+        Err(refusal) => Err(refusal),
+    }
 }

@@ -23,9 +23,10 @@ use package.Rattle.admission.proofs.Tested.{admittable}
 use package.Rattle.runs.specs.Ended.{finished, Means}
 use package.Rattle.runs.specs.Ahead.{Allowed}
 use package.Rattle.loading.specs.Loading.{Accepted}
-use package.Rattle.loading.specs.declared.loaded.Loaded.{Loaded}
-use package.Rattle.loading.specs.Loads.{program_loaded, Loads}
-use package.Rattle.loading.proofs.Loading.{accepted-typed, refused-number}
+use package.Rattle.loading.specs.declared.loaded.AcceptedProgram.{AcceptedProgram}
+use package.Rattle.loading.specs.Loads.{program_accepted, LoadsInto}
+use package.Rattle.loading.proofs.Loading.{accepted-typed}
+use package.Rattle.loading.proofs.Rooms.{room_refused}
 use package.Rattle.requests.specs.Runs.{run_of, called, RunMeans}
 
 -- a refusal of the definitions is one of the answer, and the output is unchanged
@@ -69,14 +70,14 @@ module _ {xs types terms functions : List ℕ} {table : List (List ℕ)} (A : Ac
 -- After the rows of the program
 
 module _ {xs : List ℕ} (run : Program → Answer Ran) {out : List ℕ} where
-  pub loaded-run : {l : Loaded} → Loads (Ok l) xs → {P : Program} → P ≡ program_loaded l → {r : Result Done Refusal} {out' : List ℕ}
-      → RunMeans r (run P) out out' → RunMeans r (load xs >>= run) out out'
+  pub loaded-run : {a : AcceptedProgram} → LoadsInto (Ok a) xs → {r : Result Done Refusal} {out' : List ℕ}
+      → RunMeans r (run (program_accepted a)) out out' → RunMeans r (load xs >>= run) out out'
   unfolding ◌>>=◌
-  loaded-run L e {r} {out'} R = subst (λ x. RunMeans r x out out') (sym (via _ (L.answer ∙ ap accepted (sym e)) refl)) R
+  loaded-run L {r} {out'} R = subst (λ x. RunMeans r x out out') (sym (via _ L.answer refl)) R
 
-  pub loaded-refused : {why : Refusal} → Loads (Err why) xs → {r : Result Done Refusal} → r ≡ Err why → RunMeans r (load xs >>= run) out out
+  pub loaded-refused : {why : Refusal} → LoadsInto (Err why) xs → {r : Result Done Refusal} → r ≡ Err why → RunMeans r (load xs >>= run) out out
   unfolding ◌>>=◌
-  loaded-refused {why} L e = rw e (refused_as why out (ap (λ a. a >>= run) L.answer) (refused-number L))
+  loaded-refused {why} L e = rw e (refused_as why out (ap (λ a. a >>= run) L.answer) (room_refused L))
 
 -- a workspace stays as long as it is
 pub kept-enough : {n m k : ℕ} → m ≡ n → k ≤ n → k ≤ m

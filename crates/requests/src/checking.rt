@@ -10,6 +10,6 @@ pub fn check_program(program: &[u8], workspace: &mut [u8]) -> CheckAnswer
     requires { typing_bytes ≤ length workspace.old }
     ensures { CheckMeans result program.now }
 {
-    loading::load(program, workspace)?;
+    loading::accepts(program, workspace)?;
     Ok(())
 }

@@ -7,6 +7,8 @@ ghost use Rattle.requests.specs.Runs.{RunMeans, is_back, asked, asked_of};
 
 use answers::RunAnswer;
 use loading::loaded::AcceptedProgram;
+use loading::room;
+use loading::room::Room;
 
 // Which way a function is run.
 #[derive(Clone, Copy, PartialEq, Eq, Debug)]
@@ -74,6 +76,7 @@ pub fn run_program(
     requires { workspace_for request.now.fuel ≤ length workspace.old }
     ensures { RunMeans result (asked_of request.now program.now (length output.old)) output.old output.new }
 {
-    let loaded = loading::load(program, workspace)?;
-    run(loaded.accepted(), request, workspace, output)
+    let mut room = Room::new();
+    let loaded = room::load_into(program, &mut room, workspace)?;
+    run(loaded, request, workspace, output)
 }

@@ -4,8 +4,8 @@ use Rattle.conversions.specs.Turns.{rollback_of}
 use Rattle.conversions.proofs.Loads.{turn-ready, turn-refused}
 use Rattle.conversions.proofs.programs.rollback.Goals as goal
 
-pub load-requires : goal.load-requires
-load-requires c =
+pub load_into-requires-clause-typing_bytes_in_bounds : goal.load_into-requires-clause-typing_bytes_in_bounds
+load_into-requires-clause-typing_bytes_in_bounds c =
     enough-types _ _ c.requires
 
 pub returns-in_err-loaded : goal.returns-in_err-loaded
@@ -14,4 +14,4 @@ returns-in_err-loaded c =
 
 pub returns : goal.returns
 returns c =
-    turn-ready (λ P. rollback_of P c.args.fuel c.args.journal.now) c.in_ok-loaded.ensures c.accepted.ensures c.rollback.ensures
+    turn-ready (λ P. rollback_of P c.args.fuel c.args.journal.now) c.in_ok-loaded.ensures c.rollback.ensures

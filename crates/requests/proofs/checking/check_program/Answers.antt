@@ -2,10 +2,10 @@ use Rattle.std.proofs.Common.{rules}
 use Rattle.requests.proofs.Checks.{check-ready, check-refused}
 use Rattle.requests.proofs.checking.check_program.Goals as goal
 
-pub returns-in_err-load : goal.returns-in_err-load
-returns-in_err-load c =
-    check-refused c.in_err-load.ensures (search rules)
+pub returns-in_err-accepts : goal.returns-in_err-accepts
+returns-in_err-accepts c =
+    check-refused c.in_err-accepts.ensures (search rules)
 
 pub returns : goal.returns
 returns c =
-    check-ready c.in_ok-load.ensures
+    check-ready c.in_ok-accepts.ensures

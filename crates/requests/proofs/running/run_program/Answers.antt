@@ -4,8 +4,8 @@ use Rattle.requests.proofs.Beginning.{enough-types}
 use Rattle.requests.proofs.Rows.{kept-enough, loaded-run, loaded-refused}
 use Rattle.requests.proofs.running.run_program.Goals as goal
 
-pub load-requires : goal.load-requires
-load-requires c =
+pub load_into-requires-clause-typing_bytes_in_bounds : goal.load_into-requires-clause-typing_bytes_in_bounds
+load_into-requires-clause-typing_bytes_in_bounds c =
     enough-types _ _ c.requires
 
 pub returns-in_err-loaded : goal.returns-in_err-loaded
@@ -14,8 +14,8 @@ returns-in_err-loaded c =
 
 pub run-requires : goal.run-requires
 run-requires c =
-    kept-enough c.load.auto.workspace c.requires
+    kept-enough c.load_into.auto.workspace c.requires
 
 pub returns : goal.returns
 returns c =
-    loaded-run (λ P. asked c.args.request.now P _) c.in_ok-loaded.ensures c.accepted.ensures c.run.ensures
+    loaded-run (λ P. asked c.args.request.now P _) c.in_ok-loaded.ensures c.run.ensures
