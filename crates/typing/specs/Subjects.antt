@@ -1,11 +1,14 @@
 -- What the functions ask for and ensure, over what they read together (Ready, Asked, Checked say each over lists).
 use Rattle.std.specs.Prelude.{Bool, ℕ, ◌-◌, List, map, length, Result}
+use package.Rattle.rules.specs.Ty.{same_ty}
 use package.Rattle.calls.specs.Answer.{Answer}
 use package.Rattle.calls.specs.Fields.{parameters_at}
 use package.Rattle.calls.specs.Entries.{type_at}
 use package.Rattle.program.specs.Signatures.{SignaturesAre}
 use package.Rattle.types.specs.declared.codes.Code.{Code}
 use package.Rattle.types.specs.Codes.{tree_in, Sources, Known}
+use package.Rattle.types.specs.declared.shapes.Shape.{Shape}
+use package.Rattle.types.specs.Shapes.{Shaped}
 use package.Rattle.types.specs.Counts.{Counted}
 use package.Rattle.types.specs.Figures.{Figured}
 use package.Rattle.varsets.specs.declared.Uses.{Uses}
@@ -84,6 +87,12 @@ InfersArgumentsBy x heap heap' vars vars' sc top top' t at g k count r = InfersA
 
 abbrev pub WidenedBy : Subject → (heap vars vars' : List ℕ) → Scope → ℕ → Code → Scope → Type 0
 WidenedBy x heap vars vars' sc top c r = Widened x.entries.program.now x.entries.types.now heap vars vars' sc top c r
+
+abbrev pub ShapedBy : Subject → List ℕ → ℕ → Code → Shape → Type 0
+ShapedBy x heap top c s = Shaped x.entries.program.now x.entries.types.now heap top c s
+
+abbrev pub same_in : Subject → List ℕ → Code → Code → Bool
+same_in x heap c d = same_ty (tree_in x.entries.program.now x.entries.types.now heap c) (tree_in x.entries.program.now x.entries.types.now heap d)
 
 abbrev pub ExpectsBy : Subject → List ℕ → Code → Code → ℕ → Found → Status → Type 0
 ExpectsBy x heap want answer t f r = Expects x.entries.program.now x.entries.types.now heap want answer t f r

@@ -8,7 +8,6 @@ use crate::subject::Subject;
 use crate::tests::Let;
 use crate::{infer, namings, tests, variables};
 use program::views;
-use types::basis::Basis;
 use types::codes::Code;
 use types::shapes::Shape;
 use varsets::Uses;
@@ -69,19 +68,12 @@ pub fn let_two(
         return Err(Fault::Unscoped(u32::from(t)));
     }
     let program = subject.entries.program;
-    let types = subject.entries.types;
     let bound = views::first(program, at);
     let body = views::second(program, at);
     let from = namings::count(vars);
     let lent = variables::marked(sc);
     let one = infer::infer(subject, ws, top, vars, lent, bound)?;
-    let basis = Basis {
-        program,
-        types,
-        ws,
-        top: *top,
-    };
-    let Shape::Product(c, d) = basis.shape_of(one.code) else {
+    let Shape::Product(c, d) = tests::shape_of(subject, ws, *top, one.code) else {
         return Err(Fault::Differ(u32::from(t)));
     };
     let to = namings::count(vars);
@@ -116,16 +108,9 @@ pub fn choose(
         return Err(Fault::Unscoped(u32::from(t)));
     }
     let program = subject.entries.program;
-    let types = subject.entries.types;
     let sum = views::first(program, at);
     let one = infer::infer(subject, ws, top, vars, sc, sum)?;
-    let basis = Basis {
-        program,
-        types,
-        ws,
-        top: *top,
-    };
-    let Shape::Sum(c, d) = basis.shape_of(one.code) else {
+    let Shape::Sum(c, d) = tests::shape_of(subject, ws, *top, one.code) else {
         return Err(Fault::Differ(u32::from(t)));
     };
     arms(subject, ws, top, vars, sc, t, at, one.uses, c, d)

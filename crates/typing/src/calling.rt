@@ -7,7 +7,6 @@ use crate::outcomes::{Fault, Found, Scope};
 use crate::subject::Subject;
 use crate::{infer, tests};
 use program::views;
-use types::basis::Basis;
 use types::codes::Code;
 use varsets::Uses;
 
@@ -29,18 +28,11 @@ fn arguments(
     ensures { InfersArgumentsBy subject.now ws.old ws.new vars.old vars.new sc top.old top.new t at g 0 count result }
 {
     let program = subject.entries.program;
-    let types = subject.entries.types;
     for k in 0..count {
         let part = views::listed(program, at, k);
         let found = infer::infer(subject, ws, top, vars, sc, part)?;
         let want = Code::Entry(subject.entries.table[g][k]);
-        let basis = Basis {
-            program,
-            types,
-            ws,
-            top: *top,
-        };
-        if !basis.same(found.code, want) {
+        if !tests::same(subject, ws, *top, found.code, want) {
             return Err(Fault::Differ(u32::from(t)));
         }
     }

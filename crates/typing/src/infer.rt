@@ -27,18 +27,19 @@ pub fn infer(
 {
     let program = subject.entries.program;
     let at = leaves::offset(subject.entries.terms, t);
+    // Kept: each kind returns, so that its outcome is written where it is wanted. One that the `match` hands on is copied, at each nested term.
     match views::term_kind(program, at) {
-        TermKind::Variable => variables::variable(vars, sc, t, views::variable(program, at)),
-        TermKind::Unit => Ok(leaves::unit()),
-        TermKind::Inl => inject(subject, ws, top, vars, sc, t, at),
-        TermKind::Inr => inject(subject, ws, top, vars, sc, t, at),
-        TermKind::Pair => pair(subject, ws, top, vars, sc, t, at),
-        TermKind::Let => binds::let_one(subject, ws, top, vars, sc, t, at),
-        TermKind::LetPair => binds::let_two(subject, ws, top, vars, sc, t, at),
-        TermKind::Case => binds::choose(subject, ws, top, vars, sc, t, at),
-        TermKind::Call => calling::call(subject, ws, top, vars, sc, t, at),
-        TermKind::Roll => roll(subject, ws, top, vars, sc, t, at),
-        TermKind::Unroll => unroll(subject, ws, top, vars, sc, t, at),
+        TermKind::Variable => return variables::variable(vars, sc, t, views::variable(program, at)),
+        TermKind::Unit => return Ok(leaves::unit()),
+        TermKind::Inl => return inject(subject, ws, top, vars, sc, t, at),
+        TermKind::Inr => return inject(subject, ws, top, vars, sc, t, at),
+        TermKind::Pair => return pair(subject, ws, top, vars, sc, t, at),
+        TermKind::Let => return binds::let_one(subject, ws, top, vars, sc, t, at),
+        TermKind::LetPair => return binds::let_two(subject, ws, top, vars, sc, t, at),
+        TermKind::Case => return binds::choose(subject, ws, top, vars, sc, t, at),
+        TermKind::Call => return calling::call(subject, ws, top, vars, sc, t, at),
+        TermKind::Roll => return roll(subject, ws, top, vars, sc, t, at),
+        TermKind::Unroll => return unroll(subject, ws, top, vars, sc, t, at),
     }
 }
 

@@ -3,7 +3,7 @@ ghost use Rattle.std.specs.Prelude.{Ok, ◌≡◌, ◌+◌, ◌<◌};
 ghost use Rattle.rules.specs.Limits.{max_variables, max_terms};
 ghost use Rattle.types.specs.Codes.{Room};
 ghost use Rattle.typing.specs.Ready.{Joins, Closes};
-ghost use Rattle.typing.specs.Subjects.{SourcedBy, KnownBy, CountedBy, ExpectsBy, spent_in, ClosesOneBy, ClosesTwoBy, MeetsBy, PairedBy};
+ghost use Rattle.typing.specs.Subjects.{SourcedBy, KnownBy, CountedBy, ShapedBy, same_in, ExpectsBy, spent_in, ClosesOneBy, ClosesTwoBy, MeetsBy, PairedBy};
 ghost use Rattle.typing.specs.Waiting.{Settleable};
 
 use crate::namings;
@@ -12,6 +12,7 @@ use crate::subject::Subject;
 use types::basis::Basis;
 use types::codes::Code;
 use types::products;
+use types::shapes::Shape;
 use varsets::Uses;
 
 // A let t in a scope, whose bound term is typed: what that uses, and its namings, numbers `from` to `to`.
@@ -22,6 +23,44 @@ pub struct Let {
     pub t: u16,
     pub from: u16,
     pub to: u16,
+}
+
+// Kept: `shape_of` and `same` have frames of their own. A term's parts are typed in frames one within another, and each of those would hold a basis.
+
+// The outermost node of a type.
+#[inline(never)]
+pub fn shape_of(subject: &Subject<'_>, ws: &[u8], top: u32, c: Code) -> Shape
+    requires sources { SourcedBy subject.now ws.now top }
+    requires known { KnownBy subject.now top c }
+    ensures { ShapedBy subject.now ws.now top c result }
+{
+    let program = subject.entries.program;
+    let types = subject.entries.types;
+    let basis = Basis {
+        program,
+        types,
+        ws,
+        top,
+    };
+    basis.shape_of(c)
+}
+
+// Are two types equal?
+#[inline(never)]
+pub fn same(subject: &Subject<'_>, ws: &[u8], top: u32, c: Code, d: Code) -> bool
+    requires sources { SourcedBy subject.now ws.now top }
+    requires known { KnownBy subject.now top c × KnownBy subject.now top d }
+    ensures { result ≡ same_in subject.now ws.now c d }
+{
+    let program = subject.entries.program;
+    let types = subject.entries.types;
+    let basis = Basis {
+        program,
+        types,
+        ws,
+        top,
+    };
+    basis.same(c, d)
 }
 
 // The part has to have the type `want`; then the type is `answer`.

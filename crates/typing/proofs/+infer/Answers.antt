@@ -51,8 +51,8 @@ pub calling::arguments-bounds-subject-k : goal.calling::arguments-bounds-subject
 calling::arguments-bounds-subject-k t c =
     omega (arith, args_row c.loop-k.invariant.2.ready c.loop-k.invariant.2.calls c.loop-k-test.true)
 
-pub calling::arguments-same-requires : goal.calling::arguments-same-requires
-calling::arguments-same-requires t c = (
+pub calling::arguments-same-requires-clause-known : goal.calling::arguments-same-requires-clause-known
+calling::arguments-same-requires-clause-known t c = (
   c.infer.ensures.known _ c.in_ok-found.was,
   args_want c.loop-k.invariant.2.ready c.loop-k.invariant.2.calls c.loop-k-test.true c.listed-part.ensures c.infer.ensures c.in_ok-found.was
       (args_parameter c.loop-k.invariant.2.ready c.loop-k.invariant.2.calls c.loop-k-test.true c.requires.signed) refl,
