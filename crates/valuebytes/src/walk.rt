@@ -20,10 +20,12 @@ pub struct Scoped {
 }
 
 // Cells 1 to `top`, each a recursive entry under the cell of what encloses it in turn; and `count` pending types, the next one last.
+// `top` is wider than a cell's number, and entries and cells are read field by field, as they are written: what is read in another width than
+// it was written in waits for the write, at each byte.
 #[derive(Drop)]
 pub struct Walk {
     pub cells: [Scoped; ROOM],
-    pub top: u16,
+    pub top: u32,
     pub pending: [Scoped; ROOM],
     pub count: usize,
 }
@@ -82,7 +84,11 @@ impl Walk {
         };
         let k = views::variable(table.program, at);
         let cell = self.enclosing(t.cell, k);
-        self.cells[usize::from(cell)]
+        let outer = &self.cells[usize::from(cell)];
+        Scoped {
+            entry: outer.entry,
+            cell: outer.cell,
+        }
     }
 
     // One byte of a value: the type that is pending last is taken, and those of the parts are pending instead; none: no value of that type
@@ -94,7 +100,12 @@ impl Walk {
         ensures { TurnLeaves table.now.program.now table.now.types.now self.old self.new b result }
     {
         self.count -= 1;
-        let u = self.resolve(table, self.pending[self.count]);
+        let t = &self.pending[self.count];
+        let next = Scoped {
+            entry: t.entry,
+            cell: t.cell,
+        };
+        let u = self.resolve(table, next);
         let cell = u.cell;
         match table.parts(u.entry, b)? {
             Parts::Nothing => Some(()),
@@ -112,10 +123,10 @@ impl Walk {
             }
             Parts::Body(entry) => {
                 self.top += 1;
-                self.cells[usize::from(self.top)] = u;
+                self.cells[self.top as usize] = u;
                 self.push(Scoped {
                     entry,
-                    cell: self.top,
+                    cell: self.top as u16,
                 });
                 Some(())
             }

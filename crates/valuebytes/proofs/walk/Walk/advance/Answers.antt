@@ -1,5 +1,4 @@
 use mathlib.Core.Path.{sym, ap, ◌∙◌}
-use lib.ListN.{set}
 use Rattle.std.specs.Prelude.{Some}
 use Rattle.valuebytes.proofs.Advancing.{turned-wrong, turned_nothing, turned-one, turned_two, turned-body}
 use Rattle.valuebytes.proofs.walk.Walk.advance.Goals as goal
@@ -32,4 +31,4 @@ returns-in-Body c =
     turned-body c.args.self.now c.requires.stack c.requires.pending c.resolve-u.ensures _
     (sym (c.in_ok-parts.was ∙ ap Some c.in-Body.is) ∙ c.parts.ensures) c.requires.room
     c.push-in-Body.ensures.pending c.push-in-Body.ensures.count
-    (c.push-in-Body.ensures.same.0 ∙ ap (λ i. set c.args.self.now.cells i c.resolve-u.result) c.from.ensures, c.push-in-Body.ensures.same.1)
+    (c.push-in-Body.ensures.same.0, c.push-in-Body.ensures.same.1)
