@@ -3,13 +3,14 @@
 
     tools/design/changed.py COMMIT
 
-Functions and types are told apart by crate, owner and name, definitions and claims by crate and name: one that moved to another file of its crate is the same.
+Functions and types are told apart by crate, owner and name, and by module where a crate has several of one name; definitions and claims by crate and
+name: one that moved to another file of its crate is the same.
 Comments and imports don't count. By text alone: a reader judges whether a text says less.
 """
 import re
 import subprocess
 import sys
-from collections import OrderedDict
+from collections import Counter, OrderedDict
 
 
 def files(commit, pattern):
@@ -25,9 +26,10 @@ def files(commit, pattern):
 
 
 def functions_and_types(commit):
-    """Of each crate the public functions with their clauses, and the public types and impls with ghost items."""
+    """Of each crate, name and module the public functions with their clauses, and the public types and impls with ghost items."""
     found = OrderedDict()
-    for crate, _, text in files(commit, r"crates/\w+/src/.*\.rt"):
+    for crate, file, text in files(commit, r"crates/\w+/src/.*\.rt"):
+        module = file.split("/")[-1].removesuffix(".rt")
         lines = [line for line in text.split("\n") if not line.strip().startswith("//")]
         owner = ""
         for i, line in enumerate(lines):
@@ -36,18 +38,29 @@ def functions_and_types(commit):
                 owner = re.sub(r"<.*?>", "", implements.group(1)) + "::"
                 ghosts = ghost_lines(lines, i)
                 if ghosts:
-                    found[(crate, f"impl {implements.group(1)}")] = "\n".join([line] + ghosts)
+                    found[(crate, f"impl {implements.group(1)}", module)] = "\n".join([line] + ghosts)
             elif line == "}":
                 owner = ""
             function = re.match(r"\s*pub (?:const )?(?:extern \"C\" )?fn (\w+)", line)
             if function:
                 end = next(k for k in range(i, len(lines)) if lines[k].strip() == "{")
-                found[(crate, owner + function.group(1))] = "\n".join(shown[4 * bool(owner):] for shown in lines[i:end])
+                found[(crate, owner + function.group(1), module)] = "\n".join(shown[4 * bool(owner):] for shown in lines[i:end])
             kind = re.match(r"pub (?:struct|enum|trait|type) (\w+)", line)
             if kind:
                 end = i if line.rstrip().endswith((";", "}")) else next(k for k in range(i, len(lines)) if lines[k] == "}")
-                found[(crate, "type " + kind.group(1))] = "\n".join(shown for shown in lines[i:end + 1] if shown.strip())
+                found[(crate, "type " + kind.group(1), module)] = "\n".join(shown for shown in lines[i:end + 1] if shown.strip())
     return found
+
+
+def by_name(old, new):
+    """Both without the modules, but for names that stand several times in a crate."""
+    counted = [Counter(key[:2] for key in found) for found in (old, new)]
+
+    def key(crate, name, module):
+        several = any(count[(crate, name)] > 1 for count in counted)
+        return (crate, f"{module}::{name}" if several else name)
+
+    return [OrderedDict((key(*names), text) for names, text in found.items()) for found in (old, new)]
 
 
 def ghost_lines(lines, start):
@@ -96,7 +109,7 @@ def show(title, old, new):
 
 def main():
     commit = sys.argv[1]
-    show("Public functions and types", functions_and_types(commit), functions_and_types(None))
+    show("Public functions and types", *by_name(functions_and_types(commit), functions_and_types(None)))
     show("Definitions", definitions(commit, r"crates/\w+/specs/.*\.antt"), definitions(None, r"crates/\w+/specs/.*\.antt"))
     theorems = r"crates/\w+/proofs/Theorems.*\.antt"
     show("Theorems", definitions(commit, theorems), definitions(None, theorems))
