@@ -1,6 +1,6 @@
 -- Laws of the rows of the program before those of the journal.
 use Prim.Native.Nat.{ℕ, ◌≤◌}
-use mathlib.Core.Path.{◌≡◌, refl, sym, ap, subst}
+use mathlib.Core.Path.{◌≡◌, refl, sym, ap, subst, ◌∙◌}
 use mathlib.Core.List.{List}
 use Rattle.std.specs.Prelude.{Result, Ok, Err}
 use package.Rattle.rules.specs.Term.{Program}
@@ -13,8 +13,10 @@ use package.Rattle.answers.specs.declared.Done.{Done}
 use package.Rattle.answers.specs.declared.Refusal.{Refusal}
 use package.Rattle.answers.specs.Answers.{number_of, place_of, refuses}
 use package.Rattle.answers.proofs.Answers.{later_number}
+use package.Rattle.loading.specs.declared.loaded.Loaded.{Loaded}
 use package.Rattle.loading.specs.declared.loaded.AcceptedProgram.{AcceptedProgram}
-use package.Rattle.loading.specs.Loads.{program_accepted, LoadsInto}
+use package.Rattle.loading.specs.Loads.{program_loaded, Loads, program_accepted, LoadsInto}
+use package.Rattle.loading.proofs.Loading.{refused-number}
 use package.Rattle.loading.proofs.Rooms.{room_refused}
 use package.Rattle.requests.specs.Calls.{CheckMeans}
 use package.Rattle.conversions.specs.Turns.{OpenMeans, TurnMeans}
@@ -50,14 +52,30 @@ module _ {xs : List ℕ} (x : Answer (List ℕ)) {j : List ℕ} where
   open_refused {why} C e = rw e (refused_open why j (kind-refused (load xs) x C.answer) (later_number C.later))
 
 ----------------------------------------------------------------
--- Convert and rollback
+-- Convert and rollback, of a program loaded into arrays of its own or into room that is lent
 
-module _ {xs : List ℕ} (turn : Program → Answer Turned) {j : List ℕ} where
-  pub turn-ready : {a : AcceptedProgram} → LoadsInto (Ok a) xs → {r : Result Done Refusal} {j' : List ℕ} → TurnMeans r (turn (program_accepted a)) j j'
+module _ (xs : List ℕ) (turn : Program → Answer Turned) {j : List ℕ} where
+  turn-after : {P : Program} → load xs ≡ accepted P → {r : Result Done Refusal} {j' : List ℕ} → TurnMeans r (turn P) j j'
       → TurnMeans r (load xs >>= turn) j j'
   unfolding ◌>>=◌
-  turn-ready L {r} {j'} T = subst (λ x. TurnMeans r x j j') (sym (via _ L.answer refl)) T
+  turn-after e {r} {j'} T = subst (λ x. TurnMeans r x j j') (sym (via _ e refl)) T
 
-  pub turn-refused : {why : Refusal} → LoadsInto (Err why) xs → {r : Result Done Refusal} → r ≡ Err why → TurnMeans r (load xs >>= turn) j j
+  no-turn : {why : Refusal} → load xs ≡ refused (number_of why) (place_of why) → 2 ≤ number_of why → {r : Result Done Refusal} → r ≡ Err why
+      → TurnMeans r (load xs >>= turn) j j
   unfolding ◌>>=◌
-  turn-refused {why} L e = rw e (left_alone why j (ap (λ a. a >>= turn) L.answer) (refuses {n = number_of why} (room_refused L)))
+  no-turn {why} x l e = rw e (left_alone why j (ap (λ a. a >>= turn) x) (refuses {n = number_of why} l))
+
+module _ {xs : List ℕ} (turn : Program → Answer Turned) {j : List ℕ} where
+  pub turn-ready : {l : Loaded} → Loads (Ok l) xs → {P : Program} → P ≡ program_loaded l → {r : Result Done Refusal} {j' : List ℕ} → TurnMeans r (turn P) j j'
+      → TurnMeans r (load xs >>= turn) j j'
+  turn-ready L e T = turn-after xs turn (L.answer ∙ ap accepted (sym e)) T
+
+  pub turn-refused : {why : Refusal} → Loads (Err why) xs → {r : Result Done Refusal} → r ≡ Err why → TurnMeans r (load xs >>= turn) j j
+  turn-refused L e = no-turn xs turn L.answer (refused-number L) e
+
+  pub turn-in-room : {a : AcceptedProgram} → LoadsInto (Ok a) xs → {r : Result Done Refusal} {j' : List ℕ} → TurnMeans r (turn (program_accepted a)) j j'
+      → TurnMeans r (load xs >>= turn) j j'
+  turn-in-room L T = turn-after xs turn L.answer T
+
+  pub refused-in-room : {why : Refusal} → LoadsInto (Err why) xs → {r : Result Done Refusal} → r ≡ Err why → TurnMeans r (load xs >>= turn) j j
+  refused-in-room L e = no-turn xs turn L.answer (room_refused L) e

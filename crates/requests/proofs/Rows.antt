@@ -23,9 +23,10 @@ use package.Rattle.admission.proofs.Tested.{admittable}
 use package.Rattle.runs.specs.Ended.{finished, Means}
 use package.Rattle.runs.specs.Ahead.{Allowed}
 use package.Rattle.loading.specs.Loading.{Accepted}
+use package.Rattle.loading.specs.declared.loaded.Loaded.{Loaded}
 use package.Rattle.loading.specs.declared.loaded.AcceptedProgram.{AcceptedProgram}
-use package.Rattle.loading.specs.Loads.{program_accepted, LoadsInto}
-use package.Rattle.loading.proofs.Loading.{accepted-typed}
+use package.Rattle.loading.specs.Loads.{program_loaded, Loads, program_accepted, LoadsInto}
+use package.Rattle.loading.proofs.Loading.{accepted-typed, refused-number}
 use package.Rattle.loading.proofs.Rooms.{room_refused}
 use package.Rattle.requests.specs.Runs.{run_of, called, RunMeans}
 
@@ -67,17 +68,33 @@ module _ {xs types terms functions : List ℕ} {table : List (List ℕ)} (A : Ac
           record { answer = R.answer ∙ ap summary (sym reached); later = R.later; output = R.output ∙ ap (λ x. written x out) (sym reached) }
 
 ----------------------------------------------------------------
--- After the rows of the program
+-- After the rows of the program, loaded into arrays of its own or into room that is lent
+
+module _ (xs : List ℕ) (run : Program → Answer Ran) {out : List ℕ} where
+  run-after : {P : Program} → load xs ≡ accepted P → {r : Result Done Refusal} {out' : List ℕ} → RunMeans r (run P) out out'
+      → RunMeans r (load xs >>= run) out out'
+  unfolding ◌>>=◌
+  run-after e {r} {out'} R = subst (λ x. RunMeans r x out out') (sym (via _ e refl)) R
+
+  no-run : {why : Refusal} → load xs ≡ refused (number_of why) (place_of why) → 2 ≤ number_of why → {r : Result Done Refusal} → r ≡ Err why
+      → RunMeans r (load xs >>= run) out out
+  unfolding ◌>>=◌
+  no-run {why} x l e = rw e (refused_as why out (ap (λ a. a >>= run) x) l)
 
 module _ {xs : List ℕ} (run : Program → Answer Ran) {out : List ℕ} where
-  pub loaded-run : {a : AcceptedProgram} → LoadsInto (Ok a) xs → {r : Result Done Refusal} {out' : List ℕ}
-      → RunMeans r (run (program_accepted a)) out out' → RunMeans r (load xs >>= run) out out'
-  unfolding ◌>>=◌
-  loaded-run L {r} {out'} R = subst (λ x. RunMeans r x out out') (sym (via _ L.answer refl)) R
+  pub loaded-run : {l : Loaded} → Loads (Ok l) xs → {P : Program} → P ≡ program_loaded l → {r : Result Done Refusal} {out' : List ℕ}
+      → RunMeans r (run P) out out' → RunMeans r (load xs >>= run) out out'
+  loaded-run L e R = run-after xs run (L.answer ∙ ap accepted (sym e)) R
 
-  pub loaded-refused : {why : Refusal} → LoadsInto (Err why) xs → {r : Result Done Refusal} → r ≡ Err why → RunMeans r (load xs >>= run) out out
-  unfolding ◌>>=◌
-  loaded-refused {why} L e = rw e (refused_as why out (ap (λ a. a >>= run) L.answer) (room_refused L))
+  pub loaded-refused : {why : Refusal} → Loads (Err why) xs → {r : Result Done Refusal} → r ≡ Err why → RunMeans r (load xs >>= run) out out
+  loaded-refused L e = no-run xs run L.answer (refused-number L) e
+
+  pub run-in-room : {a : AcceptedProgram} → LoadsInto (Ok a) xs → {r : Result Done Refusal} {out' : List ℕ}
+      → RunMeans r (run (program_accepted a)) out out' → RunMeans r (load xs >>= run) out out'
+  run-in-room L R = run-after xs run L.answer R
+
+  pub refused-in-room : {why : Refusal} → LoadsInto (Err why) xs → {r : Result Done Refusal} → r ≡ Err why → RunMeans r (load xs >>= run) out out
+  refused-in-room L e = no-run xs run L.answer (room_refused L) e
 
 -- a workspace stays as long as it is
 pub kept-enough : {n m k : ℕ} → m ≡ n → k ≤ n → k ≤ m

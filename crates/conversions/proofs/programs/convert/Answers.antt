@@ -1,7 +1,7 @@
 use Rattle.std.proofs.Common.{rules}
 use Rattle.requests.proofs.Beginning.{enough-types}
 use Rattle.conversions.specs.Turns.{convert_of}
-use Rattle.conversions.proofs.Loads.{turn-ready, turn-refused}
+use Rattle.conversions.proofs.Loads.{turn-in-room, refused-in-room}
 use Rattle.conversions.proofs.programs.convert.Goals as goal
 
 pub load_into-requires-clause-typing_bytes_in_bounds : goal.load_into-requires-clause-typing_bytes_in_bounds
@@ -10,8 +10,8 @@ load_into-requires-clause-typing_bytes_in_bounds c =
 
 pub returns-in_err-loaded : goal.returns-in_err-loaded
 returns-in_err-loaded c =
-    turn-refused (λ P. convert_of P c.args.fuel c.args.function c.args.ancillae.now c.args.journal.now) c.in_err-loaded.ensures (search rules)
+    refused-in-room (λ P. convert_of P c.args.fuel c.args.function c.args.ancillae.now c.args.journal.now) c.in_err-loaded.ensures (search rules)
 
 pub returns : goal.returns
 returns c =
-    turn-ready (λ P. convert_of P c.args.fuel c.args.function c.args.ancillae.now c.args.journal.now) c.in_ok-loaded.ensures c.convert.ensures
+    turn-in-room (λ P. convert_of P c.args.fuel c.args.function c.args.ancillae.now c.args.journal.now) c.in_ok-loaded.ensures c.convert.ensures

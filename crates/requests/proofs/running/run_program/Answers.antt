@@ -1,7 +1,7 @@
 use Rattle.std.proofs.Common.{rules}
 use Rattle.requests.specs.Runs.{asked}
 use Rattle.requests.proofs.Beginning.{enough-types}
-use Rattle.requests.proofs.Rows.{kept-enough, loaded-run, loaded-refused}
+use Rattle.requests.proofs.Rows.{kept-enough, run-in-room, refused-in-room}
 use Rattle.requests.proofs.running.run_program.Goals as goal
 
 pub load_into-requires-clause-typing_bytes_in_bounds : goal.load_into-requires-clause-typing_bytes_in_bounds
@@ -10,7 +10,7 @@ load_into-requires-clause-typing_bytes_in_bounds c =
 
 pub returns-in_err-loaded : goal.returns-in_err-loaded
 returns-in_err-loaded c =
-    loaded-refused (λ P. asked c.args.request.now P _) c.in_err-loaded.ensures (search rules)
+    refused-in-room (λ P. asked c.args.request.now P _) c.in_err-loaded.ensures (search rules)
 
 pub run-requires : goal.run-requires
 run-requires c =
@@ -18,4 +18,4 @@ run-requires c =
 
 pub returns : goal.returns
 returns c =
-    loaded-run (λ P. asked c.args.request.now P _) c.in_ok-loaded.ensures c.run.ensures
+    run-in-room (λ P. asked c.args.request.now P _) c.in_ok-loaded.ensures c.run.ensures
