@@ -52,7 +52,7 @@ module _ {xs : List ℕ} (x : Answer (List ℕ)) {j : List ℕ} where
   open_refused {why} C e = rw e (refused_open why j (kind-refused (load xs) x C.answer) (later_number C.later))
 
 ----------------------------------------------------------------
--- Convert and rollback, of a program loaded into arrays of its own or into room that is lent
+-- Convert and rollback
 
 module _ (xs : List ℕ) (turn : Program → Answer Turned) {j : List ℕ} where
   turn-after : {P : Program} → load xs ≡ accepted P → {r : Result Done Refusal} {j' : List ℕ} → TurnMeans r (turn P) j j'
@@ -66,6 +66,7 @@ module _ (xs : List ℕ) (turn : Program → Answer Turned) {j : List ℕ} where
   no-turn {why} x l e = rw e (left_alone why j (ap (λ a. a >>= turn) x) (refuses {n = number_of why} l))
 
 module _ {xs : List ℕ} (turn : Program → Answer Turned) {j : List ℕ} where
+  -- by what loading::load says
   pub turn-ready : {l : Loaded} → Loads (Ok l) xs → {P : Program} → P ≡ program_loaded l → {r : Result Done Refusal} {j' : List ℕ} → TurnMeans r (turn P) j j'
       → TurnMeans r (load xs >>= turn) j j'
   turn-ready L e T = turn-after xs turn (L.answer ∙ ap accepted (sym e)) T
@@ -73,6 +74,7 @@ module _ {xs : List ℕ} (turn : Program → Answer Turned) {j : List ℕ} where
   pub turn-refused : {why : Refusal} → Loads (Err why) xs → {r : Result Done Refusal} → r ≡ Err why → TurnMeans r (load xs >>= turn) j j
   turn-refused L e = no-turn xs turn L.answer (refused-number L) e
 
+  -- by what loading::room::load_into says
   pub turn-in-room : {a : AcceptedProgram} → LoadsInto (Ok a) xs → {r : Result Done Refusal} {j' : List ℕ} → TurnMeans r (turn (program_accepted a)) j j'
       → TurnMeans r (load xs >>= turn) j j'
   turn-in-room L T = turn-after xs turn L.answer T

@@ -1,4 +1,4 @@
--- Laws of the rows of the program, as the call check answers them: by what loading says, and by its answer alone.
+-- Laws of the rows of the program, as the call check answers them.
 use Prim.Native.Nat.{ℕ}
 use mathlib.Core.Path.{◌≡◌, sym, ap}
 use mathlib.Core.List.{List}
@@ -15,6 +15,7 @@ use package.Rattle.requests.specs.Calls.{CheckMeans}
 -- In a workspace that is long enough
 
 module _ {xs : List ℕ} where
+  -- by what loading::load says
   pub check-ready : {l : Loaded} → Loads (Ok l) xs → CheckMeans (Ok tt) xs
   unfolding ◌>>=◌
   check-ready L = record { answer = ap (λ a. a >>= λ P. accepted tt) (sym L.answer); later = accepts }
@@ -23,6 +24,7 @@ module _ {xs : List ℕ} where
   unfolding ◌>>=◌
   check-refused L e = rw e (record { answer = ap (λ a. a >>= λ P. accepted tt) (sym L.answer); later = refuses (refused-number L) })
 
+  -- by what loading::accepts says
   pub accepted-check : AcceptsMeans (Ok tt) xs → CheckMeans (Ok tt) xs
   accepted-check A = record { answer = A.answer; later = A.later }
 

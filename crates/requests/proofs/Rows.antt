@@ -68,7 +68,7 @@ module _ {xs types terms functions : List ℕ} {table : List (List ℕ)} (A : Ac
           record { answer = R.answer ∙ ap summary (sym reached); later = R.later; output = R.output ∙ ap (λ x. written x out) (sym reached) }
 
 ----------------------------------------------------------------
--- After the rows of the program, loaded into arrays of its own or into room that is lent
+-- After the rows of the program
 
 module _ (xs : List ℕ) (run : Program → Answer Ran) {out : List ℕ} where
   run-after : {P : Program} → load xs ≡ accepted P → {r : Result Done Refusal} {out' : List ℕ} → RunMeans r (run P) out out'
@@ -82,6 +82,7 @@ module _ (xs : List ℕ) (run : Program → Answer Ran) {out : List ℕ} where
   no-run {why} x l e = rw e (refused_as why out (ap (λ a. a >>= run) x) l)
 
 module _ {xs : List ℕ} (run : Program → Answer Ran) {out : List ℕ} where
+  -- by what loading::load says
   pub loaded-run : {l : Loaded} → Loads (Ok l) xs → {P : Program} → P ≡ program_loaded l → {r : Result Done Refusal} {out' : List ℕ}
       → RunMeans r (run P) out out' → RunMeans r (load xs >>= run) out out'
   loaded-run L e R = run-after xs run (L.answer ∙ ap accepted (sym e)) R
@@ -89,6 +90,7 @@ module _ {xs : List ℕ} (run : Program → Answer Ran) {out : List ℕ} where
   pub loaded-refused : {why : Refusal} → Loads (Err why) xs → {r : Result Done Refusal} → r ≡ Err why → RunMeans r (load xs >>= run) out out
   loaded-refused L e = no-run xs run L.answer (refused-number L) e
 
+  -- by what loading::room::load_into says
   pub run-in-room : {a : AcceptedProgram} → LoadsInto (Ok a) xs → {r : Result Done Refusal} {out' : List ℕ}
       → RunMeans r (run (program_accepted a)) out out' → RunMeans r (load xs >>= run) out out'
   run-in-room L R = run-after xs run L.answer R
